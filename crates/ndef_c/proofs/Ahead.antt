@@ -24,7 +24,7 @@ pub record Ahead (items : List Item) (bytes : List ℕ) (w : Walk) (done : List 
   pub are : items ≡ map run_record runs
   pub single : AllByRecursion (λ r. r.later ≡ []) runs
   pub passed : List Run
-  pub told : map run_record passed ≡ done
+  pub reported : map run_record passed ≡ done
   pub left : Left bytes runs w passed
 
 pub none_left : (left : List Run) → SpellsPieces (all_pieces left) [] → left ≡ []
@@ -41,7 +41,7 @@ ahead_in profile items bytes {w} b (inl h) =
       are = h.0;
       single = tt;
       passed = [];
-      told = refl;
+      reported = refl;
       left = record {
         same = b.same;
         before = sym b.place;
@@ -62,7 +62,7 @@ ahead_in profile items bytes {w} b (inr h) =
       are = sym m.items;
       single = h.single;
       passed = [];
-      told = refl;
+      reported = refl;
       left = record {
         same = b.same;
         before = sym b.place;
@@ -83,11 +83,11 @@ all_at P (y ∷ xs) x ys h = all_at P xs x ys h.1
 one_payload : (r : Run) → r.later ≡ [] → r.initial.payload ≡ (run_record r).payload
 one_payload r e = sym (ap (λ ps. r.initial.payload ++ payload_of ps) e ∙ append-nil r.initial.payload)
 
-one_piece : (r : Run) (short : Bool) (rest behind bytes : List ℕ) → r.later ≡ [] → BeginsWithRun r rest bytes → IsSplit r.initial short behind bytes → BeginsWithRun r behind bytes
-one_piece r short rest behind bytes e b s =
+one_piece : (r : Run) (short : Bool) (rest following bytes : List ℕ) → r.later ≡ [] → BeginsWithRun r rest bytes → IsSplit r.initial short following bytes → BeginsWithRun r following bytes
+one_piece r short rest following bytes e b s =
     let whole : r.initial.chunked ≡ false = subst (Follow r.initial.chunked) e b.read.follow in
-    subst (λ ps. BeginsWithRun (record { initial = r.initial; later = ps }) behind bytes) (sym e)
-    (begins_with r.initial [] short behind behind bytes b.read.initial s (subst (λ c. Later c [] behind behind) (sym whole) (later_nil behind)))
+    subst (λ ps. BeginsWithRun (record { initial = r.initial; later = ps }) following bytes) (sym e)
+    (begins_with r.initial [] short following following bytes b.read.initial s (subst (λ c. Later c [] following following) (sym whole) (later_nil following)))
 
 -- the next record, and those after it
 pub record Reached (items : List Item) (bytes : List ℕ) (done : List Item) (r : NdefRecord) (run : Run) (after : Walk) : Type 0 where
@@ -105,11 +105,11 @@ reached {items} {done} {bytes} {w} {r} {after} k h =
     let same = one_payload run single in
     let place : r.payload_at + r.part_length ≡ r.payload_at + length (run_record run).payload = ap (λ n. r.payload_at + n) (h.there.part.count_is ∙ ap length same) in
     record {
-      within = (map run_record o.more, all ∙ ap (λ xs. xs ++ run_record run ∷ map run_record o.more) k.told);
+      within = (map run_record o.more, all ∙ ap (λ xs. xs ++ run_record run ∷ map run_record o.more) k.reported);
       one = same;
       stands = record {
         runs = k.passed;
-        are = k.told;
+        are = k.reported;
         from = w.at;
         between = k.left.before;
         run = run;
@@ -122,14 +122,14 @@ reached {items} {done} {bytes} {w} {r} {after} k h =
         are = k.are;
         single = k.single;
         passed = k.passed ++ run ∷ [];
-        told = map-append run_record k.passed (run ∷ []) ∙ ap (λ xs. xs ++ run_record run ∷ []) k.told;
+        reported = map-append run_record k.passed (run ∷ []) ∙ ap (λ xs. xs ++ run_record run ∷ []) k.reported;
         left = o.left;
       };
     }
 
 -- where no more come all were passed
 pub all_done : {items done : List Item} {bytes : List ℕ} {w : Walk} → Ahead items bytes w done → IsOver w → items ≡ done
-all_done k o = k.are ∙ ap (map run_record) (all_passed k.left o).are ∙ k.told
+all_done k o = k.are ∙ ap (map run_record) (all_passed k.left o).are ∙ k.reported
 
 -- ---- the first with a property
 
@@ -137,13 +137,13 @@ pub lack_on : (P : Item → Type 0) (xs : List Item) (i : Item) → Lack P xs �
 lack_on P [] i h k = (k, tt)
 lack_on P (x ∷ xs) i h k = (h.0, lack_on P xs i h.1 k)
 
-pub get_behind : {X : Type 0} (xs : List X) (i : X) (more : List X) → slice_get (xs ++ i ∷ more) (length xs) ≡ Some i
-get_behind [] i more = refl
-get_behind (x ∷ xs) i more = get_behind xs i more
+pub get_after : {X : Type 0} (xs : List X) (i : X) (more : List X) → slice_get (xs ++ i ∷ more) (length xs) ≡ Some i
+get_after [] i more = refl
+get_after (x ∷ xs) i more = get_after xs i more
 
 pub first_at : (P : Item → Type 0) (items done : List Item) (i : Item) → (more : List Item) × (items ≡ done ++ i ∷ more) → Lack P done → P i → IsFirstAt P items (length done) i
 first_at P items done i w lack has = record {
-  at = ap (λ xs. slice_get xs (length done)) w.1 ∙ get_behind done i w.0;
+  at = ap (λ xs. slice_get xs (length done)) w.1 ∙ get_after done i w.0;
   has = has;
   before = subst (Lack P) (sym (ap (take (length done)) w.1 ∙ take_at done (i ∷ w.0) (length done) refl)) lack;
 }
@@ -164,6 +164,6 @@ pub empty_rest : (rest : List ℕ) → (length rest == 0) ≡ true → length re
 empty_rest [] e = refl
 empty_rest (x ∷ rest) e = absurd (true≢false (sym e ∙ ne_eqb (suc (length rest)) 0 (omega arith)))
 
-pub behind_piece : (p : Piece) (short : Bool) (behind rest bytes : List ℕ) (at : ℕ) → rest ≡ drop at bytes → (i : IsSplit p short behind rest) → behind ≡ drop (at + length i.front) bytes
-behind_piece p short behind rest bytes at e i =
-    sym (drop_at i.front behind (length i.front) refl) ∙ ap (drop (length i.front)) (sym i.joined ∙ e) ∙ drop-drop (length i.front) at bytes
+pub after_piece : (p : Piece) (short : Bool) (following rest bytes : List ℕ) (at : ℕ) → rest ≡ drop at bytes → (i : IsSplit p short following rest) → following ≡ drop (at + length i.front) bytes
+after_piece p short following rest bytes at e i =
+    sym (drop_at i.front following (length i.front) refl) ∙ ap (drop (length i.front)) (sym i.joined ∙ e) ∙ drop-drop (length i.front) at bytes

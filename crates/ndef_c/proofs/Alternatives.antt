@@ -1,4 +1,4 @@
--- Where the references of an alternative carrier lie.
+-- The places of the references of an alternative carrier.
 use Rattle.std.proofs.Common.{◌≡◌, ℕ, zero, suc, ◌+◌, ◌<◌, ◌≤◌, ◌∷◌, [], take, drop, sym, refl, ◌∙◌, ap, subst, arith, List, length, length-drop, get_or, ne_eqb, false, Some}
 use Rattle.std.specs.Prelude.{◌==◌, slice_get, sum_by, if◌then◌else◌}
 use Rattle.std.proofs.lemmas.List.{drop-drop, length-take-le}
@@ -16,7 +16,7 @@ use Rattle.ndef_c.specs.Walks.{Lies}
 pub record At (s : List ℕ) (at x : ℕ) (rest : List ℕ) : Type 0 where
   pub within : at < length s
   pub is : get_or s at 0 ≡ x
-  pub behind : drop (at + 1) s ≡ rest
+  pub following : drop (at + 1) s ≡ rest
 
 is_at : (s : List ℕ) (at x : ℕ) (rest : List ℕ) → drop at s ≡ x ∷ rest → (at < length s) × (get_or s at 0 ≡ x)
 is_at [] zero x rest e = absurd (cc)
@@ -25,7 +25,7 @@ is_at (y ∷ s) zero x rest e = let a : y ≡ x = cc in (omega arith, a)
 is_at (y ∷ s) (suc at) x rest e = let r = is_at s at x rest e in let n = r.0 in (omega (arith, n), r.1)
 
 pub octet_at : (s : List ℕ) (at x : ℕ) (rest : List ℕ) → drop at s ≡ x ∷ rest → At s at x rest
-octet_at s at x rest e = let r = is_at s at x rest e in record { within = r.0; is = r.1; behind = sym (drop-drop 1 at s) ∙ ap (drop 1) e }
+octet_at s at x rest e = let r = is_at s at x rest e in record { within = r.0; is = r.1; following = sym (drop-drop 1 at s) ∙ ap (drop 1) e }
 
 -- ---- the parts of a payload
 
@@ -43,7 +43,7 @@ ac_parts octet n s (k ∷ t) e l a =
     let payload : List ℕ = octet ∷ n ∷ s in
     let p = octet_at payload (2 + n) k t (sym (drop-drop n 2 payload) ∙ e) in
     let place : 3 + n ≡ 2 + n + 1 = omega arith in
-    let at : drop (3 + n) payload ≡ t = ap (λ j. drop j payload) place ∙ p.behind in
+    let at : drop (3 + n) payload ≡ t = ap (λ j. drop j payload) place ∙ p.following in
     record {
       length_within = omega arith;
       count_within = p.within;
@@ -121,8 +121,8 @@ there payload count at i (suc m) (k ∷ s) h e d a f g =
     let n = length-drop at payload in
     let w = p.within in
     let place : at + (1 + k) ≡ at + 1 + k = omega arith in
-    let behind : drop (at + (1 + get_or payload at 0)) payload ≡ drop k s =
-    ap (λ j. drop (at + (1 + j)) payload) p.is ∙ ap (λ j. drop j payload) place ∙ sym (drop-drop k (at + 1) payload) ∙ ap (drop k) p.behind in
+    let following : drop (at + (1 + get_or payload at 0)) payload ≡ drop k s =
+    ap (λ j. drop (at + (1 + j)) payload) p.is ∙ ap (λ j. drop j payload) place ∙ sym (drop-drop k (at + 1) payload) ∙ ap (drop k) p.following in
     record {
       within = p.within;
       bound = omega (arith, l, n, w, p.is, q.within);
@@ -132,7 +132,7 @@ there payload count at i (suc m) (k ∷ s) h e d a f g =
             first.0,
             record {
               within = omega (arith, l, n, w, p.is, q.within);
-              are = ap (λ j. take j (drop (at + 1) payload)) p.is ∙ ap (take k) p.behind;
+              are = ap (λ j. take j (drop (at + 1) payload)) p.is ∙ ap (take k) p.following;
               count_is = p.is ∙ sym (length-take-le k s q.within);
             },
           );
@@ -143,8 +143,8 @@ there payload count at i (suc m) (k ∷ s) h e d a f g =
       next = record {
         m = m;
         missing = omega (arith, e);
-        are = rw behind q.rest;
-        stand = λ v x. rw behind (first_of v.auxiliary i m k s v.rest (f v x)).1;
+        are = rw following q.rest;
+        stand = λ v x. rw following (first_of v.auxiliary i m k s v.rest (f v x)).1;
         place = λ v x.
             let here = g v x in
             let more = size_more v.auxiliary i (take k s) (first_of v.auxiliary i m k s v.rest (f v x)).0 in

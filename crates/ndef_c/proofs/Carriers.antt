@@ -1,4 +1,4 @@
--- Where the parts of a handover carrier lie.
+-- The places of the parts of a handover carrier.
 use Rattle.std.proofs.Common.{◌≡◌, ℕ, ◌+◌, ◌-◌, ◌%◌, ◌∷◌, [], take, drop, sym, refl, ◌∙◌, ap, arith, List, length, get_or, length-drop}
 use Rattle.std.proofs.lemmas.List.{drop-drop, take_all, length-take-le}
 use Rattle.ndef_format.specs.Records.{AreOctets}

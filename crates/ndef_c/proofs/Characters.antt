@@ -9,7 +9,7 @@ use Rattle.ndef_format.specs.Texts.{units_of, spelled, unit_octets}
 use Rattle.ndef_lang.specs.Machine.Utf16Laws.{spelled_length}
 use Rattle.ndef_types.specs.UnitLaws.{same_unit}
 use Rattle.ndef_c.proofs.Puts.{puts_on}
-use Rattle.ndef_c.specs.Rooms.{Puts}
+use Rattle.ndef_c.specs.Buffers.{Puts}
 use Rattle.ndef_c.specs.Texts.{AreSpelled}
 use Rattle.ndef_c.specs.declared.out.Out.{Out}
 
@@ -48,8 +48,8 @@ range_of little c cs octets a = scalar_cases c (and_parts (scalar c) (scalars cs
 pub in_range : (little : Bool) (c : ℕ) (cs octets : List ℕ) → AreSpelled little (c ∷ cs) octets → InScalarRange c
 in_range little c cs octets a = elim (range_of little c cs octets a) [ inl x ↦ inl x | inr x ↦ inr (x.0, omega (arith, x.1)) ]
 
-later : (little : Bool) (c : ℕ) (cs octets behind : List ℕ) → AreSpelled little (c ∷ cs) octets → spelled little (units_of cs) ≡ behind → AreSpelled little cs behind
-later little c cs octets behind a e = record { scalars = (and_parts (scalar c) (scalars cs) a.scalars).1; are = e }
+later : (little : Bool) (c : ℕ) (cs octets following : List ℕ) → AreSpelled little (c ∷ cs) octets → spelled little (units_of cs) ≡ following → AreSpelled little cs following
+later little c cs octets following a e = record { scalars = (and_parts (scalar c) (scalars cs) a.scalars).1; are = e }
 
 -- it has one unit, or this is the first of two
 abbrev pub FirstUnit : (little : Bool) (c : ℕ) (cs : List ℕ) (u : ℕ) (rest : List ℕ) → Type 0
@@ -78,13 +78,13 @@ some_unit little c cs octets a =
 -- a unit that is no surrogate is the character
 pub record IsAlone (little : Bool) (c : ℕ) (cs : List ℕ) (u : ℕ) (rest : List ℕ) : Type 0 where
   pub same : u ≡ c
-  pub behind : AreSpelled little cs rest
+  pub following : AreSpelled little cs rest
 
 pub alone : (little : Bool) (c : ℕ) (cs octets : List ℕ) (u : ℕ) (rest : List ℕ) → AreSpelled little (c ∷ cs) octets → octets ≡ unit_octets little u ++ rest → ((0xd800 ≤ u) × (u < 0xe000) → ⊥) → IsAlone little c cs u rest
 alone little c cs octets u rest a e h = by (first_unit little c cs octets u rest a e) (range_of little c cs octets a) h
   where
     by : FirstUnit little c cs u rest → (c < 0xd800) ⊎ ((0xe000 ≤ c) × (c < 0x110000)) → ((0xd800 ≤ u) × (u < 0xe000) → ⊥) → IsAlone little c cs u rest
-    by (inl x) r h = record { same = x.1; behind = x.2 }
+    by (inl x) r h = record { same = x.1; following = x.2 }
     by (inr x) (inl r) h = absurd (omega (arith, x.0, r))
     by (inr x) (inr r) h = absurd (h (omega (arith, x.1), omega (arith, x.0, x.1, r.1)))
 
@@ -93,8 +93,8 @@ pub record IsFirstOfTwo (little : Bool) (c : ℕ) (cs : List ℕ) (u : ℕ) (res
   pub high : u < 0xdc00
   pub enough : 2 ≤ length rest
   pub scalar : (0x10000 ≤ c) × (c < 0x110000)
-  pub second : (v : ℕ) (behind : List ℕ) → rest ≡ unit_octets little v ++ behind
-      → (0xdc00 ≤ v) × (v < 0xe000) × (0x10000 + (u - 0xd800) * 0x400 + (v - 0xdc00) ≡ c) × AreSpelled little cs behind
+  pub second : (v : ℕ) (following : List ℕ) → rest ≡ unit_octets little v ++ following
+      → (0xdc00 ≤ v) × (v < 0xe000) × (0x10000 + (u - 0xd800) * 0x400 + (v - 0xdc00) ≡ c) × AreSpelled little cs following
 
 pub first_of_two : (little : Bool) (c : ℕ) (cs octets : List ℕ) (u : ℕ) (rest : List ℕ) → AreSpelled little (c ∷ cs) octets → octets ≡ unit_octets little u ++ rest → 0xd800 ≤ u → u < 0xe000 → IsFirstOfTwo little c cs u rest
 first_of_two little c cs octets u rest a e h l = by (first_unit little c cs octets u rest a e) (range_of little c cs octets a)
@@ -109,9 +109,9 @@ first_of_two little c cs octets u rest a e h l = by (first_unit little c cs octe
           high = omega (arith, x.0, x.1, r.1);
           enough = omega (arith, n);
           scalar = (x.0, r.1);
-          second = λ v behind f.
-              let s = same_front little v (0xDC00 + (c - 0x10000) % 0x400) behind (spelled little (units_of cs)) (sym f ∙ x.2) in
-              (omega (arith, s.0), omega (arith, s.0), omega (arith, s.0, x.0, x.1), later little c cs octets behind a (sym s.1));
+          second = λ v following f.
+              let s = same_front little v (0xDC00 + (c - 0x10000) % 0x400) following (spelled little (units_of cs)) (sym f ∙ x.2) in
+              (omega (arith, s.0), omega (arith, s.0), omega (arith, s.0, x.0, x.1), later little c cs octets following a (sym s.1));
         }
 
 -- ---- all characters
@@ -130,8 +130,8 @@ pub none_left : (little : Bool) (cs rest : List ℕ) → AreSpelled little cs re
 none_left little [] rest a h = refl
 none_left little (c ∷ cs) rest a h = let n = some_unit little c cs rest a in absurd (omega (arith, n, h))
 
-pub shorter : (little : Bool) (c : ℕ) (cs octets behind : List ℕ) → AreSpelled little (c ∷ cs) octets → AreSpelled little cs behind → 2 + length behind ≤ length octets
-shorter little c cs octets behind a b =
+pub shorter : (little : Bool) (c : ℕ) (cs octets following : List ℕ) → AreSpelled little (c ∷ cs) octets → AreSpelled little cs following → 2 + length following ≤ length octets
+shorter little c cs octets following a b =
     let n = some_unit little c cs octets a in
     let m = sym (ap length b.are) ∙ spelled_length little (units_of cs) in
     omega (arith, n, m)
@@ -151,9 +151,9 @@ pub record Putting (little : Bool) (cs rest : List ℕ) (old new : Out) : Type 0
 pub putting_at : {little : Bool} {cs rest : List ℕ} {out : Out} → AreSpelled little cs rest → Puts out [] out → Putting little cs rest out out
 putting_at {little} {cs} {rest} {out} a p = record { done = []; left = cs; all = refl; are = a; puts = p }
 
-pub putting_on : {little : Bool} {cs rest : List ℕ} {old mid new : Out} (p : Putting little cs rest old mid) (c : ℕ) (more text behind : List ℕ) → p.left ≡ c ∷ more → text ≡ encode c
-    → AreSpelled little more behind → Puts mid text new → Putting little cs behind old new
-putting_on {little} {cs} {rest} {old} {mid} {new} p c more text behind l t a q = record {
+pub putting_on : {little : Bool} {cs rest : List ℕ} {old mid new : Out} (p : Putting little cs rest old mid) (c : ℕ) (more text following : List ℕ) → p.left ≡ c ∷ more → text ≡ encode c
+    → AreSpelled little more following → Puts mid text new → Putting little cs following old new
+putting_on {little} {cs} {rest} {old} {mid} {new} p c more text following l t a q = record {
   done = p.done ++ c ∷ [];
   left = more;
   all = append_assoc p.done (c ∷ []) more ∙ ap (λ x. p.done ++ x) (sym l) ∙ p.all;

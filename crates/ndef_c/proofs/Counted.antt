@@ -13,7 +13,7 @@ use Rattle.ndef_types.specs.declared.power.Power.{Power}
 use Rattle.ndef_types.specs.declared.power.Power.TheVariants.{Inactive, Active, Activating, Unknown}
 use Rattle.ndef_c.specs.AlternativeWrites.{GivesAlternative, IsAlternativeOf, MayBeAlternative, MayBeReference, WritesAlternative, counted_part, part_of}
 use Rattle.ndef_c.specs.Contents.{alternative_payload}
-use Rattle.ndef_c.specs.Rooms.{Gives}
+use Rattle.ndef_c.specs.Buffers.{Gives}
 use Rattle.ndef_c.proofs.AlternativePayload.{payload_in_set, payload_stands}
 use Rattle.ndef_c.specs.declared.part.NdefPart.{NdefPart}
 
@@ -53,8 +53,8 @@ alternative_of power bytes reference auxiliary = record { power = power_named po
 
 pub part_octets : (bytes : List ℕ) (part : NdefPart) → AreOctets bytes → AreOctets (part_of bytes part)
 part_octets bytes part a =
-    let behind = octets_drop part.at bytes a in
-    octets_front (part_of bytes part) (drop part.length (drop part.at bytes)) (subst AreOctets (sym (take-append-drop part.length (drop part.at bytes))) behind)
+    let following = octets_drop part.at bytes a in
+    octets_front (part_of bytes part) (drop part.length (drop part.at bytes)) (subst AreOctets (sym (take-append-drop part.length (drop part.at bytes))) following)
 
 part_is : (bytes : List ℕ) (part : NdefPart) → AreOctets bytes → MayBeReference (length bytes) part → IsReference (part_of bytes part)
 part_is bytes part a h = let n = part_length bytes part h in let w = h.1 in (omega (arith, n, w), part_octets bytes part a)

@@ -1,4 +1,4 @@
--- What a checker answers of all the bytes that it was fed.
+-- The answers of a checker to all the bytes that it was fed.
 use Rattle.std.proofs.Common.{◌≡◌, ℕ, ◌+◌, ◌<◌, ◌≤◌, inl, inr, refl, sym, ◌∙◌, ap, subst, arith, List, ◌++◌, length, map, take, drop, append_assoc}
 use Rattle.std.specs.List.{AllByRecursion}
 use Rattle.std.proofs.lemmas.Bool.{cases_lt}

@@ -7,24 +7,24 @@ use Rattle.ndef_format.specs.NestedReasons.{TypedReason}
 use Rattle.ndef_format.specs.Payloads.{IsTypedPayload}
 use Rattle.ndef_format.specs.Records.{Piece}
 use Rattle.ndef_message.specs.Views.{Viewed, Views}
-use Rattle.ndef_piece.specs.Heads.{HeadsAreApart}
+use Rattle.ndef_piece.specs.Heads.{HeadsAreUnambiguous}
 use Rattle.ndef_piece.specs.Whole.{BeginWithPiece}
 use Rattle.ndef_fields.specs.Fronts.{ArePayloadFront, content_come, front_parts, kind_begun}
 use Rattle.ndef_fields.specs.Messages.{AreParts, IsOuterOwn}
 use Rattle.ndef_fields.specs.Parts.{Part}
-use Rattle.ndef_fields.specs.Tellings.{AreFields, AreFieldsBefore, IsMessageFront}
+use Rattle.ndef_fields.specs.Reports.{AreFields, AreFieldsBefore, IsMessageFront}
 use Rattle.ndef_fields.specs.declared.field.Field.{Field}
 use Rattle.ndef_c.specs.Checks.{ChecksTo}
 use Rattle.ndef_c.specs.Fields.{AreFieldsChecked}
 use Rattle.ndef_c.specs.declared.checking.NdefChecked.{NdefChecked}
-use Rattle.ndef_c.specs.declared.status.TheConstants.{OK, NO_ROOM, BAD_ARGUMENT, END}
+use Rattle.ndef_c.specs.declared.status.TheConstants.{OK, BUFFER_TOO_SMALL, BAD_ARGUMENT, END}
 use Rattle.ndef_message.specs.Machine.SeenLaws.{same_split}
 use Rattle.ndef_c.proofs.Followed.{split_size}
 
 -- ---- a whole message as a front
 
 -- where pieces spell some bytes, the whole pieces at their front are all of these
-all_whole : HeadsAreApart → (ps qs : List Piece) (bytes front rest : List ℕ) → SpellsPieces ps bytes → SpellsPieces qs front → bytes ≡ front ++ rest → ¬ BeginWithPiece rest → (qs ≡ ps) × (rest ≡ [])
+all_whole : HeadsAreUnambiguous → (ps qs : List Piece) (bytes front rest : List ℕ) → SpellsPieces ps bytes → SpellsPieces qs front → bytes ≡ front ++ rest → ¬ BeginWithPiece rest → (qs ≡ ps) × (rest ≡ [])
 all_whole apart [] [] bytes front rest s t e n = (refl, ap (λ x. x ++ rest) (sym t) ∙ sym e ∙ s)
 all_whole apart [] (q ∷ qs) bytes front rest s (short, x, y, f, is, more) e n =
     let z = split_size q short y front (record { front = x; spells = is; joined = f }) in
@@ -45,9 +45,9 @@ none_come : (rest : List ℕ) (payload : List Part) → rest ≡ [] → ArePaylo
 none_come [] payload e h = h
 none_come (b ∷ rest) payload e h = absurd (cc)
 
-whole_fields : HeadsAreApart → (limits : LimitValues) (bytes : List ℕ) (v : Viewed) (told : List Field) → Views IsTypedPayload TypedReason limits bytes (Ok v) → AreFieldsBefore (take v.taken bytes) told
-    → (a : AreFields limits bytes told) × (a.count ≡ v.taken)
-whole_fields apart limits bytes v told views f =
+whole_fields : HeadsAreUnambiguous → (limits : LimitValues) (bytes : List ℕ) (v : Viewed) (reported : List Field) → Views IsTypedPayload TypedReason limits bytes (Ok v) → AreFieldsBefore (take v.taken bytes) reported
+    → (a : AreFields limits bytes reported) × (a.count ≡ v.taken)
+whole_fields apart limits bytes v reported views f =
     let d = views.1.0 in
     let s = f.spelled in
     let all = all_whole apart (all_pieces d.runs) s.whole.pieces (take v.taken bytes) s.whole.front s.rest d.spelling.spelled s.whole.spelled s.whole.split s.whole.ended in
@@ -69,34 +69,34 @@ whole_fields apart limits bytes v told views f =
 
 -- ---- what a check answers
 
-module _ (limits : LimitValues) (bytes : List ℕ) (checked : ℕ) (why : NdefChecked) where
-  pub place_within : ChecksTo IsTypedPayload TypedReason limits bytes checked why → why.place ≤ length bytes
+module _ (limits : LimitValues) (bytes : List ℕ) (checked : ℕ) (refusal : NdefChecked) where
+  pub place_within : ChecksTo IsTypedPayload TypedReason limits bytes checked refusal → refusal.place ≤ length bytes
   place_within (inl (e, t)) = let p = t.place in let w = t.views.0 in omega (arith, p, w)
   place_within (inr (e, r)) = let p = r.place in let w = r.refused.place.within in omega (arith, p, w)
 
-  pub front_viable : ChecksTo IsTypedPayload TypedReason limits bytes checked why → IsMessageFront (take why.place bytes)
+  pub front_viable : ChecksTo IsTypedPayload TypedReason limits bytes checked refusal → IsMessageFront (take refusal.place bytes)
   front_viable (inl (e, t)) =
       let all = take t.viewed.taken bytes in
       (limits, subst (λ n. IsViable IsTypedPayload limits (take n bytes)) (sym t.place) ([], subst (IsAccepted IsTypedPayload limits) (sym (append-nil all)) (map run_record t.viewed.runs, t.views.1.0)))
   front_viable (inr (e, r)) = (limits, subst (λ n. IsViable IsTypedPayload limits (take n bytes)) (sym r.place) r.refused.place.viable)
 
-  pub are_checked : HeadsAreApart → (front : List ℕ) (told : List Field) → ChecksTo IsTypedPayload TypedReason limits bytes checked why → front ≡ take why.place bytes → AreFieldsBefore front told
-      → AreFieldsChecked limits bytes checked why told
-  are_checked apart front told (inl (e, t)) same f =
-      let w = whole_fields apart limits bytes t.viewed told t.views (subst (λ x. AreFieldsBefore x told) (same ∙ ap (λ n. take n bytes) t.place) f) in
+  pub are_checked : HeadsAreUnambiguous → (front : List ℕ) (reported : List Field) → ChecksTo IsTypedPayload TypedReason limits bytes checked refusal → front ≡ take refusal.place bytes → AreFieldsBefore front reported
+      → AreFieldsChecked limits bytes checked refusal reported
+  are_checked apart front reported (inl (e, t)) same f =
+      let w = whole_fields apart limits bytes t.viewed reported t.views (subst (λ x. AreFieldsBefore x reported) (same ∙ ap (λ n. take n bytes) t.place) f) in
       record { checks = inl (e, t); whole = λ _. (w.0, w.1 ∙ sym t.place); before = λ r. absurd (omega (arith, e, r)) }
-  are_checked apart front told (inr (e, r)) same f =
-      record { checks = inr (e, r); whole = λ o. absurd (omega (arith, e, o)); before = λ _. subst (λ x. AreFieldsBefore x told) same f }
+  are_checked apart front reported (inr (e, r)) same f =
+      record { checks = inr (e, r); whole = λ o. absurd (omega (arith, e, o)); before = λ _. subst (λ x. AreFieldsBefore x reported) same f }
 
   -- no answer is that of a wrong argument
-  pub given_well : (status : ℕ) → ChecksTo IsTypedPayload TypedReason limits bytes checked why → (status ≡ NO_ROOM) ⊎ (status ≡ checked) → status ≢ BAD_ARGUMENT
+  pub given_well : (status : ℕ) → ChecksTo IsTypedPayload TypedReason limits bytes checked refusal → (status ≡ BUFFER_TOO_SMALL) ⊎ (status ≡ checked) → status ≢ BAD_ARGUMENT
   given_well status k (inl h) e = absurd (omega (arith, h, e))
   given_well status (inl (o, t)) (inr h) e = absurd (omega (arith, o, h, e))
   given_well status (inr (r, t)) (inr h) e = absurd (omega (arith, r, h, e))
 
-  pub told_well : (status behind : ℕ) → ChecksTo IsTypedPayload TypedReason limits bytes checked why → (checked ≡ OK → behind ≡ END) → (checked ≢ OK → behind ≡ checked) → (status ≡ OK) ⊎ (status ≡ behind) → status ≢ BAD_ARGUMENT
-  told_well status behind k ended refused (inl h) e = absurd (omega (arith, h, e))
-  told_well status behind (inl (o, t)) ended refused (inr h) e = let b = ended o in absurd (omega (arith, b, h, e))
-  told_well status behind (inr (r, t)) ended refused (inr h) e =
+  pub reported_well : (status following : ℕ) → ChecksTo IsTypedPayload TypedReason limits bytes checked refusal → (checked ≡ OK → following ≡ END) → (checked ≢ OK → following ≡ checked) → (status ≡ OK) ⊎ (status ≡ following) → status ≢ BAD_ARGUMENT
+  reported_well status following k ended refused (inl h) e = absurd (omega (arith, h, e))
+  reported_well status following (inl (o, t)) ended refused (inr h) e = let b = ended o in absurd (omega (arith, b, h, e))
+  reported_well status following (inr (r, t)) ended refused (inr h) e =
       let b = refused (λ o. absurd (omega (arith, r, o))) in
       absurd (omega (arith, b, r, h, e))

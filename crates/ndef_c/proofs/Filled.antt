@@ -2,7 +2,7 @@
 use Rattle.std.proofs.Common.{◌≡◌, ℕ, zero, suc, ◌+◌, ◌<◌, ◌≤◌, List, [], ◌∷◌, ◌++◌, length, length-append, length-drop, drop, refl, ◌∙◌, ap, subst, arith, Some}
 use Rattle.std.specs.Prelude.{slice_get, slice_set}
 use Rattle.ndef_c.specs.Arrays.{EachAt, GivesMany, set_over}
-use Rattle.ndef_c.specs.declared.status.TheConstants.{OK, NO_ROOM}
+use Rattle.ndef_c.specs.declared.status.TheConstants.{OK, BUFFER_TOO_SMALL}
 
 at_end : {T : Type 0} (done : List T) (x : T) (before : List T) → length done < length before → slice_set (set_over done before) (length done) x ≡ set_over (done ++ x ∷ []) before
 at_end [] x [] h = absurd (omega (arith, h))
@@ -28,14 +28,14 @@ each_more P from [] x h p = let e : from + 0 ≡ from = omega arith in (subst (�
 each_more P from (y ∷ xs) x h p = let e : from + length (y ∷ xs) ≡ from + 1 + length xs = omega arith in (h.0, each_more P (from + 1) xs x h.1 (subst (λ k. P k x) e p))
 
 -- an array that is too small is as it was
-pub no_room_for : {T : Type 0} (holds : List T → Type 0) (many : ℕ) (old : List T) (count : ℕ) → count ≡ many → length old < count → GivesMany holds many old old count NO_ROOM
+pub no_room_for : {T : Type 0} (holds : List T → Type 0) (many : ℕ) (old : List T) (count : ℕ) → count ≡ many → length old < count → GivesMany holds many old old count BUFFER_TOO_SMALL
 no_room_for holds many old count n h = record { count_is = n; fits = λ l. absurd (omega (arith, n, h, l)); too_small = λ _. (refl, refl) }
 
 -- one that is large enough is filled
-pub room_for : {T : Type 0} (holds : List T → Type 0) (many : ℕ) (old new : List T) (count : ℕ) → count ≡ many → count ≤ length old → (told : List T) → holds told → length told ≡ many → new ≡ set_over told old
+pub room_for : {T : Type 0} (holds : List T → Type 0) (many : ℕ) (old new : List T) (count : ℕ) → count ≡ many → count ≤ length old → (reported : List T) → holds reported → length reported ≡ many → new ≡ set_over reported old
     → GivesMany holds many old new count OK
-room_for holds many old new count n h told are size e =
-    record { count_is = n; fits = λ _. (refl, told, are, size, e); too_small = λ l. absurd (omega (arith, n, h, l)) }
+room_for holds many old new count n h reported are size e =
+    record { count_is = n; fits = λ _. (refl, reported, are, size, e); too_small = λ l. absurd (omega (arith, n, h, l)) }
 
 -- an index at which there is an element
 pub get_within : {T : Type 0} (xs : List T) (k : ℕ) (x : T) → slice_get xs k ≡ Some x → k < length xs

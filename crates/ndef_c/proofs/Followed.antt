@@ -35,9 +35,9 @@ pub record Next (ps : List Piece) (rest bytes : List ℕ) : Type 0 where
   pub are : ps ≡ piece ∷ more
   pub is_later : IsLater piece
   pub short : Bool
-  pub behind : List ℕ
-  pub split : IsSplit piece short behind bytes
-  pub others : Later piece.chunked more rest behind
+  pub following : List ℕ
+  pub split : IsSplit piece short following bytes
+  pub others : Later piece.chunked more rest following
 
 pub later_none : (ps : List Piece) (rest bytes : List ℕ) → Later false ps rest bytes → (ps ≡ []) × (rest ≡ bytes)
 later_none [] rest bytes l = (refl, sym (l.joined ∙ ap (λ x. x ++ rest) l.spelled))
@@ -56,13 +56,13 @@ later_next (q ∷ qs) rest bytes l =
       are = refl;
       is_later = l.follow.1;
       short = s.0;
-      behind = s.2 ++ rest;
+      following = s.2 ++ rest;
       split = record { front = s.1; spells = s.4; joined = l.joined ∙ ap (λ x. x ++ rest) s.3 ∙ append_assoc s.1 s.2 rest };
       others = record { follow = l.follow.2; front = s.2; spelled = s.5; joined = refl };
     }
 
-pub later_cons : (q : Piece) (qs : List Piece) (short : Bool) (rest behind bytes : List ℕ) → IsLater q → IsSplit q short behind bytes → Later q.chunked qs rest behind → Later true (q ∷ qs) rest bytes
-later_cons q qs short rest behind bytes is i l = record {
+pub later_cons : (q : Piece) (qs : List Piece) (short : Bool) (rest following bytes : List ℕ) → IsLater q → IsSplit q short following bytes → Later q.chunked qs rest following → Later true (q ∷ qs) rest bytes
+later_cons q qs short rest following bytes is i l = record {
   follow = (refl, is, l.follow);
   front = i.front ++ l.front;
   spelled = (short, i.front, l.front, refl, i.spells, l.spelled);
@@ -92,9 +92,9 @@ same_later true (p ∷ ps) (q ∷ qs) x y bytes a b =
 pub record Initial (run : Run) (rest bytes : List ℕ) : Type 0 where
   pub is_initial : IsInitial Standard run.initial
   pub short : Bool
-  pub behind : List ℕ
-  pub split : IsSplit run.initial short behind bytes
-  pub others : Later run.initial.chunked run.later rest behind
+  pub following : List ℕ
+  pub split : IsSplit run.initial short following bytes
+  pub others : Later run.initial.chunked run.later rest following
 
 pub initial_of : (run : Run) (rest bytes : List ℕ) → BeginsWithRun run rest bytes → Initial run rest bytes
 initial_of run rest bytes b =
@@ -102,14 +102,14 @@ initial_of run rest bytes b =
     record {
       is_initial = b.read.initial;
       short = s.0;
-      behind = s.2 ++ rest;
+      following = s.2 ++ rest;
       split = record { front = s.1; spells = s.4; joined = b.joined ∙ ap (λ x. x ++ rest) s.3 ∙ append_assoc s.1 s.2 rest };
       others = record { follow = b.read.follow; front = s.2; spelled = s.5; joined = refl };
     }
 
-pub begins_with : (p : Piece) (ps : List Piece) (short : Bool) (rest behind bytes : List ℕ) → IsInitial Standard p → IsSplit p short behind bytes → Later p.chunked ps rest behind
+pub begins_with : (p : Piece) (ps : List Piece) (short : Bool) (rest following bytes : List ℕ) → IsInitial Standard p → IsSplit p short following bytes → Later p.chunked ps rest following
     → BeginsWithRun (record { initial = p; later = ps }) rest bytes
-begins_with p ps short rest behind bytes is i l = record {
+begins_with p ps short rest following bytes is i l = record {
   read = record { initial = is; follow = l.follow };
   front = i.front ++ l.front;
   spelled = (short, i.front, l.front, refl, i.spells, l.spelled);
@@ -117,47 +117,47 @@ begins_with p ps short rest behind bytes is i l = record {
 }
 
 pub begins_with_piece : (run : Run) (rest bytes : List ℕ) → BeginsWithRun run rest bytes → BeginWithPiece bytes
-begins_with_piece run rest bytes b = let i = initial_of run rest bytes b in record { piece = run.initial; short = i.short; rest = i.behind; split = i.split }
+begins_with_piece run rest bytes b = let i = initial_of run rest bytes b in record { piece = run.initial; short = i.short; rest = i.following; split = i.split }
 
 pub one_record : OneRecordIsThere
 one_record r s x y bytes a b =
     let i = initial_of r x bytes a in
     let j = initial_of s y bytes b in
-    let p = same_split r.initial s.initial i.short j.short i.behind j.behind bytes i.split j.split in
+    let p = same_split r.initial s.initial i.short j.short i.following j.following bytes i.split j.split in
     let c : r.initial.chunked ≡ s.initial.chunked = ap (λ p. p.chunked) p.0 in
-    let l = same_later r.initial.chunked r.later s.later x y i.behind i.others
+    let l = same_later r.initial.chunked r.later s.later x y i.following i.others
     (record { follow = subst (λ k. Follow k s.later) (sym c) j.others.follow; front = j.others.front; spelled = j.others.spelled; joined = p.1 ∙ j.others.joined }) in
     (ap₂ (λ p ps. record { initial = p; later = ps }) p.0 l.0, l.1)
 
 -- the run with which the bytes begin, where this piece is there
-pub record From (p : Piece) (run : Run) (end behind : List ℕ) : Type 0 where
+pub record From (p : Piece) (run : Run) (end following : List ℕ) : Type 0 where
   pub same : run.initial ≡ p
   pub is_initial : IsInitial Standard p
-  pub others : Later p.chunked run.later end behind
+  pub others : Later p.chunked run.later end following
 
-pub from_piece : (p : Piece) (short : Bool) (behind bytes : List ℕ) → IsSplit p short behind bytes → (run : Run) (end : List ℕ) → BeginsWithRun run end bytes → From p run end behind
-from_piece p short behind bytes s run end b =
+pub from_piece : (p : Piece) (short : Bool) (following bytes : List ℕ) → IsSplit p short following bytes → (run : Run) (end : List ℕ) → BeginsWithRun run end bytes → From p run end following
+from_piece p short following bytes s run end b =
     let i = initial_of run end bytes b in
-    let e = same_split run.initial p i.short short i.behind behind bytes i.split s in
+    let e = same_split run.initial p i.short short i.following following bytes i.split s in
     record {
       same = e.0;
       is_initial = subst (IsInitial Standard) e.0 i.is_initial;
-      others = subst (λ z. Later p.chunked run.later end z) e.1 (subst (λ q. Later q.chunked run.later end i.behind) e.0 i.others);
+      others = subst (λ z. Later p.chunked run.later end z) e.1 (subst (λ q. Later q.chunked run.later end i.following) e.0 i.others);
     }
 
 -- ---- a run that is read piece by piece
 
 -- of a run with the initial piece p these pieces were read, the last of them q, and these bytes are left
-pub record Reading (p q : Piece) (behind rest : List ℕ) (size count : ℕ) : Type 0 where
+pub record Reading (p q : Piece) (following rest : List ℕ) (size count : ℕ) : Type 0 where
   pub done : List Piece
-  pub onto : (ps : List Piece) (end : List ℕ) → Later q.chunked ps end rest → Later p.chunked (done ++ ps) end behind
-  pub back : (ps : List Piece) (end : List ℕ) → Later p.chunked ps end behind → (qs : List Piece) × (ps ≡ done ++ qs) × Later q.chunked qs end rest
+  pub onto : (ps : List Piece) (end : List ℕ) → Later q.chunked ps end rest → Later p.chunked (done ++ ps) end following
+  pub back : (ps : List Piece) (end : List ℕ) → Later p.chunked ps end following → (qs : List Piece) × (ps ≡ done ++ qs) × Later q.chunked qs end rest
   pub size_is : size ≡ length (payload_of (p ∷ done))
   pub count_is : count ≡ length (p ∷ done)
   pub last_is : q.last ≡ ends_message p done
 
-pub reading_at : (p : Piece) (behind : List ℕ) → Reading p p behind behind (length p.payload) 1
-reading_at p behind = record {
+pub reading_at : (p : Piece) (following : List ℕ) → Reading p p following following (length p.payload) 1
+reading_at p following = record {
   done = [];
   onto = λ ps end l. l;
   back = λ ps end l. (ps, refl, l);
@@ -179,20 +179,20 @@ payload_more (p ∷ ps) q =
     omega (arith, a, b, c)
 
 -- one more
-pub reading_on : {p q r : Piece} {behind rest more : List ℕ} {size count : ℕ} (short : Bool) → Reading p q behind rest size count → q.chunked ≡ true → IsLater r → IsSplit r short more rest
-    → Reading p r behind more (size + length r.payload) (count + 1)
-reading_on {p} {q} {r} {behind} {rest} {more} {size} {count} short g c is i = record {
+pub reading_on : {p q r : Piece} {following rest more : List ℕ} {size count : ℕ} (short : Bool) → Reading p q following rest size count → q.chunked ≡ true → IsLater r → IsSplit r short more rest
+    → Reading p r following more (size + length r.payload) (count + 1)
+reading_on {p} {q} {r} {following} {rest} {more} {size} {count} short g c is i = record {
   done = g.done ++ r ∷ [];
-  onto = λ ps end l. subst (λ z. Later p.chunked z end behind) (sym (append_assoc g.done (r ∷ []) ps))
+  onto = λ ps end l. subst (λ z. Later p.chunked z end following) (sym (append_assoc g.done (r ∷ []) ps))
       (g.onto (r ∷ ps) end (subst (λ k. Later k (r ∷ ps) end rest) (sym c) (later_cons r ps short end more rest is i l)));
   back = λ ps end l.
       let b = g.back ps end l in
       let n = later_next b.0 end rest (subst (λ k. Later k b.0 end rest) c b.2) in
-      let s = same_split n.piece r n.short short n.behind more rest n.split i in
+      let s = same_split n.piece r n.short short n.following more rest n.split i in
       let chunked : n.piece.chunked ≡ r.chunked = ap (λ p. p.chunked) s.0 in (
         n.more,
         b.1 ∙ ap (λ z. g.done ++ z) (n.are ∙ ap (λ p. p ∷ n.more) s.0) ∙ sym (append_assoc g.done (r ∷ []) n.more),
-        subst (λ z. Later r.chunked n.more end z) s.1 (subst (λ k. Later k n.more end n.behind) chunked n.others),
+        subst (λ z. Later r.chunked n.more end z) s.1 (subst (λ k. Later k n.more end n.following) chunked n.others),
       );
   size_is = let e = g.size_is in let a = payload_more (p ∷ g.done) r in omega (arith, e, a);
   count_is = let e = g.count_is in let a = length-append g.done (r ∷ []) in omega (arith, e, a);
@@ -200,12 +200,12 @@ reading_on {p} {q} {r} {behind} {rest} {more} {size} {count} short g c is i = re
 }
 
 -- where it goes on a later piece is there
-pub goes_on : {p q : Piece} {behind rest : List ℕ} {size count : ℕ} (g : Reading p q behind rest size count) → q.chunked ≡ true → (ps : List Piece) (end : List ℕ) → Later p.chunked ps end behind
+pub goes_on : {p q : Piece} {following rest : List ℕ} {size count : ℕ} (g : Reading p q following rest size count) → q.chunked ≡ true → (ps : List Piece) (end : List ℕ) → Later p.chunked ps end following
     → (qs : List Piece) × Next qs end rest
-goes_on {p} {q} {behind} {rest} g c ps end l =
+goes_on {p} {q} {following} {rest} g c ps end l =
     let b = g.back ps end l in (b.0, later_next b.0 end rest (subst (λ k. Later k b.0 end rest) c b.2))
 
 -- where it ends all of it was read
-pub is_read : {p q : Piece} {behind rest : List ℕ} {size count : ℕ} (g : Reading p q behind rest size count) → q.chunked ≡ false → Later p.chunked g.done rest behind
-is_read {p} {q} {behind} {rest} g c =
-    subst (λ z. Later p.chunked z rest behind) (append-nil g.done) (g.onto [] rest (subst (λ k. Later k [] rest rest) (sym c) (later_nil rest)))
+pub is_read : {p q : Piece} {following rest : List ℕ} {size count : ℕ} (g : Reading p q following rest size count) → q.chunked ≡ false → Later p.chunked g.done rest following
+is_read {p} {q} {following} {rest} g c =
+    subst (λ z. Later p.chunked z rest following) (append-nil g.done) (g.onto [] rest (subst (λ k. Later k [] rest rest) (sym c) (later_nil rest)))

@@ -1,4 +1,4 @@
--- Records that are appended to a message in a room.
+-- Records that are appended to a message in a buffer.
 use Rattle.std.proofs.Common.{◌≡◌, ℕ, ◌-◌, ◌<◌, ◌≤◌, ◌==◌, ne_eqb, Bool, true, false, List, [], ◌∷◌, ◌++◌, take, drop, take_at, get_or, refl, sym, ◌∙◌, ap, ap₂, subst, arith, length, length-append, length-take-le, append-nil, append_assoc, inl, inr, Option, ◌&&◌, not}
 use Rattle.std.specs.List.{flat_map}
 use Rattle.std.specs.Prelude.{slice_set}
@@ -121,23 +121,23 @@ followed_more first (b ∷ records) a =
 -- the message that is there, its end taken from it
 pub record Open (records : List Appended) (last : Appended) (h : Holding) : Type 0 where
   pub is : reopened h ≡ followed_octets true (records ++ last ∷ [])
-  pub size : length (reopened h) ≡ h.built.length
-  pub some : 0 < h.built.length
+  pub size : length (reopened h) ≡ h.builder.length
+  pub some : 0 < h.builder.length
 
 open_of : (records : List Appended) (last : Appended) (h : Holding) → HoldsRecords records last h → Open records last h
 open_of records last h k =
     let front = followed_octets true records in
     let d = record_differs (form_of last.how) (opens true records) (size_of last.how) last.item k.at k.begins in
-    let bytes = take h.built.length h.room in
+    let bytes = take h.builder.length h.buffer in
     let all : bytes ≡ (front ++ d.front) ++ d.octet ∷ d.others = k.bytes ∙ ap (λ x. front ++ x) d.is ∙ sym (append_assoc front d.front (d.octet ∷ d.others)) in
     let n = length-append front d.front in
     let i = d.at_is in
     let j = k.last_at in
-    let place : h.built.last_at ≡ length (front ++ d.front) = omega (arith, n, i, j) in
-    let octet : get_or bytes h.built.last_at 0 ≡ d.octet = ap₂ (λ x y. get_or x y 0) all place ∙ get_or-append_seam (front ++ d.front) d.octet d.others 0 in
+    let place : h.builder.last_at ≡ length (front ++ d.front) = omega (arith, n, i, j) in
+    let octet : get_or bytes h.builder.last_at 0 ≡ d.octet = ap₂ (λ x y. get_or x y 0) all place ∙ get_or-append_seam (front ++ d.front) d.octet d.others 0 in
     let set : reopened h ≡ (front ++ d.front) ++ (d.octet - 64) ∷ d.others =
-    ap (λ x. slice_set bytes h.built.last_at (x - 64)) octet ∙ ap₂ (λ x y. slice_set x y (d.octet - 64)) all place ∙ set-append_seam (front ++ d.front) d.octet d.others (d.octet - 64) in
-    let m = length-take-le h.built.length h.room k.within in
+    ap (λ x. slice_set bytes h.builder.last_at (x - 64)) octet ∙ ap₂ (λ x y. slice_set x y (d.octet - 64)) all place ∙ set-append_seam (front ++ d.front) d.octet d.others (d.octet - 64) in
+    let m = length-take-le h.builder.length h.buffer k.within in
     let a = ap length all ∙ length-append (front ++ d.front) (d.octet ∷ d.others) in
     let b = ap length set ∙ length-append (front ++ d.front) ((d.octet - 64) ∷ d.others) in
     record {
@@ -148,29 +148,29 @@ open_of records last h k =
 
 -- ---- one more
 
-room_is : (octets : List ℕ) (begins : ℕ → Type 0) (before after : Holding) (count : ℕ) → GivesAppended octets begins before after count OK → count ≤ length before.room
-room_is octets begins before after count g = elim (cases_lt (length before.room) count) [
+room_is : (octets : List ℕ) (begins : ℕ → Type 0) (before after : Holding) (count : ℕ) → GivesAppended octets begins before after count OK → count ≤ length before.buffer
+room_is octets begins before after count g = elim (cases_lt (length before.buffer) count) [
   | inl l ↦ (let s = (g.too_small l).0 in absurd (omega (arith, s)))
   | inr l ↦ l
 ]
 
 -- after what is there
-held_more : (records : List Appended) (a : Appended) (before after : Holding) (count : ℕ) → reopened before ≡ followed_octets true records → length (reopened before) ≡ before.built.length
-    → is_first_of before.built ≡ opens true records → before.built.records ≡ length records → IsAppended a before after count → HoldsRecords records a after
+held_more : (records : List Appended) (a : Appended) (before after : Holding) (count : ℕ) → reopened before ≡ followed_octets true records → length (reopened before) ≡ before.builder.length
+    → is_first_of before.builder ≡ opens true records → before.builder.records ≡ length records → IsAppended a before after count → HoldsRecords records a after
 held_more records a before after count e n first few g =
-    let octets = appended_octets (is_first_of before.built) a.how a.item in
+    let octets = appended_octets (is_first_of before.builder) a.how a.item in
     let f = g.fits (room_is octets _ before after count g) in
     let w = f.2 in
     let size = w.length_is in
     let both = length-append (reopened before) octets in
-    let room = f.1 ∙ sym (append_assoc (reopened before) octets (drop count before.room)) in
-    let whole = ap length room ∙ length-append (reopened before ++ octets) (drop count before.room) in
+    let buffer = f.1 ∙ sym (append_assoc (reopened before) octets (drop count before.buffer)) in
+    let whole = ap length buffer ∙ length-append (reopened before ++ octets) (drop count before.buffer) in
     let place = w.last_at in
     let k = ap length e in
     let many = w.records in
     record {
       within = omega (arith, whole, both, size, n);
-      bytes = ap (take after.built.length) room ∙ take_at (reopened before ++ octets) (drop count before.room) after.built.length (omega (arith, both, size, n))
+      bytes = ap (take after.builder.length) buffer ∙ take_at (reopened before ++ octets) (drop count before.buffer) after.builder.length (omega (arith, both, size, n))
           ∙ ap₂ (λ x o. x ++ appended_octets o a.how a.item) e first;
       at = w.at;
       begins = subst (λ o. AppendedBegins o a.how a.item w.at) first w.begins_at;
@@ -180,7 +180,7 @@ held_more records a before after count e n first few g =
 
 pub first_held : FirstIsHeld
 first_held a before after count u g =
-    let none : reopened before ≡ [] = ap (λ k. slice_set (take k before.room) before.built.last_at (get_or (take k before.room) before.built.last_at 0 - 64)) u.length_is in
+    let none : reopened before ≡ [] = ap (λ k. slice_set (take k before.buffer) before.builder.last_at (get_or (take k before.buffer) before.builder.last_at 0 - 64)) u.length_is in
     let size = u.length_is in
     held_more [] a before after count none (ap length none ∙ sym size) (ap (λ k. k == 0) size) u.records g
 
@@ -190,4 +190,4 @@ others_held records last a before after count k g =
     let some = o.some in
     let n = length-append records (last ∷ []) in
     let c = k.count in
-    held_more (records ++ last ∷ []) a before after count o.is o.size (ne_eqb before.built.length 0 (omega (arith, some)) ∙ sym (opens_more records last)) (omega (arith, n, c)) g
+    held_more (records ++ last ∷ []) a before after count o.is o.size (ne_eqb before.builder.length 0 (omega (arith, some)) ∙ sym (opens_more records last)) (omega (arith, n, c)) g

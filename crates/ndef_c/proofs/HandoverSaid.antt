@@ -10,19 +10,19 @@ use Rattle.ndef_types.specs.Handovers.{canonical_or_none}
 use Rattle.ndef_c.specs.Appending.{well_known}
 use Rattle.ndef_c.specs.HandoverMaking.{CarriersAsked, GivesRequest, GivesSelect, MayBeCarriers, MayBeErrorSaid, MayBeRequest, MayBeSelect, SelectAsked, carrier_items, carriers_asked, error_items, message_of, request_items, select_items}
 use Rattle.ndef_c.specs.HandoverParts.{alternative_item}
-use Rattle.ndef_c.specs.Made.{IsMade, made_item}
-use Rattle.ndef_c.specs.Rooms.{Gives}
-use Rattle.ndef_c.specs.Series.{AreSeries, IsSeries, MayBeMessage, all_items, series_items}
+use Rattle.ndef_c.specs.PendingRecord.{IsMade, made_item}
+use Rattle.ndef_c.specs.Buffers.{Gives}
+use Rattle.ndef_c.specs.RecordList.{AreSeries, IsSeries, MayBeMessage, all_items, series_items}
 use Rattle.ndef_c.specs.declared.handover_parts.NdefAlternativeWriting.{NdefAlternativeWriting}
-use Rattle.ndef_c.specs.declared.making.Made.{Made}
+use Rattle.ndef_c.specs.declared.making.PendingRecord.{PendingRecord}
 use Rattle.ndef_c.specs.declared.part.NdefPart.{NdefPart}
-use Rattle.ndef_c.specs.declared.series.Series.{Series}
-use Rattle.ndef_c.specs.declared.series.Series.TheVariants as several
+use Rattle.ndef_c.specs.declared.record_list.RecordList.{RecordList}
+use Rattle.ndef_c.specs.declared.record_list.RecordList.TheVariants as several
 
 -- ---- alternative carriers
 
 -- the series of their records
-pub record AreCarriers (c : CarriersAsked) (s : Series) : Type 0 where
+pub record AreCarriers (c : CarriersAsked) (s : RecordList) : Type 0 where
   pub are : series_items s ≡ carrier_items c
   pub each : IsSeries s → MayBeCarriers c
   pub is : MayBeCarriers c → IsSeries s
@@ -35,17 +35,17 @@ are_carriers bytes references alternatives =
 
 -- ---- requests
 
-abbrev pub request_series : Made → Series → List Series
+abbrev pub request_series : PendingRecord → RecordList → List RecordList
 request_series made s = several.One made ∷ s ∷ []
 
 -- the record of the collision resolution
-abbrev pub IsCollisionMade : ℕ → Made → Type 0
+abbrev pub IsCollisionMade : ℕ → PendingRecord → Type 0
 IsCollisionMade number made = made_item made ≡ well_known kinds.Collision [] (to_be_bytes w16 number)
 
-request_joined : (number : ℕ) (made : Made) {c : CarriersAsked} {s : Series} → IsCollisionMade number made → AreCarriers c s → all_items (request_series made s) ≡ request_items number c
+request_joined : (number : ℕ) (made : PendingRecord) {c : CarriersAsked} {s : RecordList} → IsCollisionMade number made → AreCarriers c s → all_items (request_series made s) ≡ request_items number c
 request_joined number made {c} {s} e p = λ j. e j ∷ (append-nil (series_items s) ∙ p.are) j
 
-pub to_request : {minor : ℕ} (number : ℕ) (made : Made) {c : CarriersAsked} {s : Series} → minor < 16 → number < 65536 → IsCollisionMade number made → AreCarriers c s
+pub to_request : {minor : ℕ} (number : ℕ) (made : PendingRecord) {c : CarriersAsked} {s : RecordList} → minor < 16 → number < 65536 → IsCollisionMade number made → AreCarriers c s
     → MayBeMessage ((16 + minor) ∷ []) (request_series made s) → MayBeRequest minor number c
 to_request {minor} number made {c} {s} four two e p m =
     let same = ap (λ t. length (canonical t)) (request_joined number made e p) in
@@ -58,7 +58,7 @@ to_request {minor} number made {c} {s} four two e p m =
       fits = omega (arith, same, fits);
     }
 
-pub from_request : {minor : ℕ} (number : ℕ) (made : Made) {c : CarriersAsked} {s : Series} → IsMade made → IsCollisionMade number made → AreCarriers c s → MayBeRequest minor number c
+pub from_request : {minor : ℕ} (number : ℕ) (made : PendingRecord) {c : CarriersAsked} {s : RecordList} → IsMade made → IsCollisionMade number made → AreCarriers c s → MayBeRequest minor number c
     → MayBeMessage ((16 + minor) ∷ []) (request_series made s)
 from_request {minor} number made {c} {s} h e p m =
     let same = ap (λ t. length (canonical t)) (request_joined number made e p) in
@@ -70,7 +70,7 @@ from_request {minor} number made {c} {s} h e p m =
     }
 
 -- what is given of these records is what is written for the request
-pub gives_request : {minor : ℕ} (number : ℕ) (made : Made) {c : CarriersAsked} {s : Series} → IsCollisionMade number made → AreCarriers c s → MayBeRequest minor number c → (before after : List ℕ) (count status : ℕ)
+pub gives_request : {minor : ℕ} (number : ℕ) (made : PendingRecord) {c : CarriersAsked} {s : RecordList} → IsCollisionMade number made → AreCarriers c s → MayBeRequest minor number c → (before after : List ℕ) (count status : ℕ)
     → Gives ((16 + minor) ∷ canonical (all_items (request_series made s))) before after count status → GivesRequest minor number c before after count status
 gives_request {minor} number made {c} {s} e p may before after count status g = record {
   may = may;
@@ -84,17 +84,17 @@ gives_request {minor} number made {c} {s} e p may before after count status g = 
 
 -- ---- selects
 
-abbrev pub select_series : (carriers error : Series) → List Series
+abbrev pub select_series : (carriers error : RecordList) → List RecordList
 select_series carriers error = carriers ∷ error ∷ []
 
 -- the series of the record of its error
-abbrev pub IsErrorSeries : SelectAsked → Series → Type 0
+abbrev pub IsErrorSeries : SelectAsked → RecordList → Type 0
 IsErrorSeries s error = AreSeries (error_items s.how s.carriers.bytes) error
 
-select_joined : (s : SelectAsked) {carriers error : Series} → AreCarriers s.carriers carriers → IsErrorSeries s error → all_items (select_series carriers error) ≡ select_items s
+select_joined : (s : SelectAsked) {carriers error : RecordList} → AreCarriers s.carriers carriers → IsErrorSeries s error → all_items (select_series carriers error) ≡ select_items s
 select_joined s {carriers} {error} p x = λ j. p.are j ++ (append-nil (series_items error) ∙ x.are) j
 
-pub to_select : (s : SelectAsked) {carriers error : Series} → s.how.minor < 16 → MayBeErrorSaid s.how s.carriers.bytes → AreCarriers s.carriers carriers → IsErrorSeries s error
+pub to_select : (s : SelectAsked) {carriers error : RecordList} → s.how.minor < 16 → MayBeErrorSaid s.how s.carriers.bytes → AreCarriers s.carriers carriers → IsErrorSeries s error
     → MayBeMessage ((16 + s.how.minor) ∷ []) (select_series carriers error) → MayBeSelect s
 to_select s {carriers} {error} four said p x m =
     let same = ap (λ t. length (canonical t)) (select_joined s p x) in
@@ -107,7 +107,7 @@ to_select s {carriers} {error} four said p x m =
       fits = omega (arith, same, fits);
     }
 
-pub from_select : (s : SelectAsked) {carriers error : Series} → AreCarriers s.carriers carriers → IsErrorSeries s error → MayBeSelect s
+pub from_select : (s : SelectAsked) {carriers error : RecordList} → AreCarriers s.carriers carriers → IsErrorSeries s error → MayBeSelect s
     → MayBeMessage ((16 + s.how.minor) ∷ []) (select_series carriers error)
 from_select s {carriers} {error} p x m =
     let same = ap (λ t. length (canonical t)) (select_joined s p x) in
@@ -123,7 +123,7 @@ message_written [] = refl
 message_written (i ∷ items) = refl
 
 -- what is given of these records is what is written for the select
-pub gives_select : (s : SelectAsked) {carriers error : Series} → AreCarriers s.carriers carriers → IsErrorSeries s error → MayBeSelect s → (before after : List ℕ) (count status : ℕ)
+pub gives_select : (s : SelectAsked) {carriers error : RecordList} → AreCarriers s.carriers carriers → IsErrorSeries s error → MayBeSelect s → (before after : List ℕ) (count status : ℕ)
     → Gives ((16 + s.how.minor) ∷ canonical (all_items (select_series carriers error))) before after count status → GivesSelect s before after count status
 gives_select s {carriers} {error} p x may before after count status g = record {
   may = may;

@@ -123,10 +123,10 @@ error_some [] h = absurd h
 error_some (x ∷ s) h = omega arith
 
 -- its data lies after its reason
-pub error_told : (payload s : List ℕ) (at : ℕ) → IsError s → Lies payload (at + 1) (length s) s
+pub error_reported : (payload s : List ℕ) (at : ℕ) → IsError s → Lies payload (at + 1) (length s) s
     → (v : ErrorValue) × StandsForError s v × (get_or s 0 0 ≡ v.reason) × Lies payload (at + 2) (length s - 1) v.detail
-error_told payload [] at h l = absurd h
-error_told payload (x ∷ s) at h l =
+error_reported payload [] at h l = absurd h
+error_reported payload (x ∷ s) at h l =
     let t = lies_tail payload s (at + 1) (length (x ∷ s)) x l in
     let place : at + 1 + 1 ≡ at + 2 = omega arith in
     let count : length s ≡ length (x ∷ s) - 1 = omega arith in

@@ -11,8 +11,8 @@ use Rattle.ndef_format.specs.Records.{AreOctets}
 use Rattle.ndef_format.specs.declared.reason.Reason.{Reason}
 use Rattle.ndef_format.specs.declared.reason.Reason.TheVariants.{DoesNotFit}
 use Rattle.ndef_format.specs.declared.refusal.Refusal.{Refusal}
-use Rattle.ndef_value.specs.SliceLaws.{behind_drop, rest_from}
-use Rattle.ndef_lang.specs.Language.{Behind, Continues, PassesBetween}
+use Rattle.ndef_value.specs.SliceLaws.{after_drop, rest_from}
+use Rattle.ndef_lang.specs.Language.{After, Continues, PassesBetween}
 use Rattle.ndef_lang.specs.LengthLaws.{some_octets}
 use Rattle.ndef_lang.specs.Machine.Utf8Laws.{are_utf8_lengths}
 use Rattle.ndef_lang.specs.declared.utf8.Utf8Lang.TheVariants.{Whole}
@@ -240,13 +240,13 @@ pub octets_go : (field : Field) (n : ℕ) (more : List Field) (s : List ℕ) →
     → GoesOn (field ∷ more) more s (rest_from n s)
 octets_go field n more s is octets fits =
     subst (λ f. GoesOn (f ∷ more) more s (rest_from n s)) (sym is)
-    (subst (GoesOn (fields.Octets n ∷ more) more s) (sym (behind_drop n s)) (after_octets n more s octets (subst (λ f. HasLaidLength (f ∷ more) (length s)) is fits)))
+    (subst (GoesOn (fields.Octets n ∷ more) more s) (sym (after_drop n s)) (after_octets n more s octets (subst (λ f. HasLaidLength (f ∷ more) (length s)) is fits)))
 
 pub within_goes : (field : Field) (least most : ℕ) (more : List Field) (s : List ℕ) → field ≡ fields.Within least most → HasLaidLength (field ∷ more) (length s) → least ≤ get_or s 0 0
     → get_or s 0 0 ≤ most → GoesOn (field ∷ more) more s (rest_from 1 s)
 within_goes field least most more s is fits above below =
     subst (λ f. GoesOn (f ∷ more) more s (rest_from 1 s)) (sym is)
-    (subst (GoesOn (fields.Within least most ∷ more) more s) (sym (behind_drop 1 s)) (go s (subst (λ f. HasLaidLength (f ∷ more) (length s)) is fits) above below))
+    (subst (GoesOn (fields.Within least most ∷ more) more s) (sym (after_drop 1 s)) (go s (subst (λ f. HasLaidLength (f ∷ more) (length s)) is fits) above below))
   where
     go : (s : List ℕ) → HasLaidLength (fields.Within least most ∷ more) (length s) → least ≤ get_or s 0 0 → get_or s 0 0 ≤ most → GoesOn (fields.Within least most ∷ more) more s (drop 1 s)
     go [] fits above below = absurd (omega (arith, fits.0))
@@ -265,8 +265,8 @@ pub counted_goes : (field : Field) (more : List Field) (s : List ℕ) (n : ℕ) 
     → n ≤ length (rest_from 1 s) → HasLaidLength more (length (rest_from 1 s) - n) → GoesOn (field ∷ more) more s (rest_from n (rest_from 1 s))
 counted_goes field more s n is octets first fits enough inner =
     subst (λ f. GoesOn (f ∷ more) more s (rest_from n (rest_from 1 s))) (sym is)
-    (subst (GoesOn (fields.Counted ∷ more) more s) (sym (behind_drop n (rest_from 1 s) ∙ ap (drop n) (behind_drop 1 s)))
-    (go s octets first (subst (λ f. HasLaidLength (f ∷ more) (length s)) is fits) (subst (λ t. n ≤ length t) (behind_drop 1 s) enough) (subst (λ t. HasLaidLength more (length t - n)) (behind_drop 1 s) inner)))
+    (subst (GoesOn (fields.Counted ∷ more) more s) (sym (after_drop n (rest_from 1 s) ∙ ap (drop n) (after_drop 1 s)))
+    (go s octets first (subst (λ f. HasLaidLength (f ∷ more) (length s)) is fits) (subst (λ t. n ≤ length t) (after_drop 1 s) enough) (subst (λ t. HasLaidLength more (length t - n)) (after_drop 1 s) inner)))
   where
     go : (s : List ℕ) → AreOctets s → n ≡ get_or s 0 0 → HasLaidLength (fields.Counted ∷ more) (length s) → n ≤ length (drop 1 s) → HasLaidLength more (length (drop 1 s) - n)
         → GoesOn (fields.Counted ∷ more) more s (drop n (drop 1 s))
@@ -278,7 +278,7 @@ pub counted_refused : (field : Field) (more : List Field) (s : List ℕ) (n : �
     → (n ≤ length (rest_from 1 s) → HasLaidLength more (length (rest_from 1 s) - n) → ⊥) → IsRefusedFirst (field ∷ more) s
 counted_refused field more s n is order first fits out =
     subst (λ f. IsRefusedFirst (f ∷ more) s) (sym is)
-    (go s first (subst (λ f. HasLaidLength (f ∷ more) (length s)) is fits) (subst (λ t. n ≤ length t → HasLaidLength more (length t - n) → ⊥) (behind_drop 1 s) out))
+    (go s first (subst (λ f. HasLaidLength (f ∷ more) (length s)) is fits) (subst (λ t. n ≤ length t → HasLaidLength more (length t - n) → ⊥) (after_drop 1 s) out))
   where
     go : (s : List ℕ) → n ≡ get_or s 0 0 → HasLaidLength (fields.Counted ∷ more) (length s) → (n ≤ length (drop 1 s) → HasLaidLength more (length (drop 1 s) - n) → ⊥)
         → IsRefusedFirst (fields.Counted ∷ more) s

@@ -20,7 +20,7 @@ pub mod Linked
 pub mod Layouts
 pub mod LinkParts
 pub mod Listed
-pub mod Made
+pub mod PendingRecord
 pub mod Messages
 pub mod Mixed
 pub mod NestedRecords
@@ -34,7 +34,7 @@ pub mod PosterValues
 pub mod Prefixed
 pub mod Puts
 pub mod Records
-pub mod Rewritten
+pub mod Normalized
 pub mod Several
 pub mod Stepped
 pub mod Texts

@@ -25,7 +25,7 @@ use Rattle.ndef_types.specs.Links.{AreLinks, HasId, IsHandoverRecord as IsHandov
 use Rattle.ndef_types.specs.Values.{StandsForAc}
 use Rattle.ndef_types.specs.declared.link.Link.{Link}
 use Rattle.ndef_c.specs.Handovers.{HasMessage, IsHandoverPayload}
-use Rattle.ndef_c.specs.Links.{BeginsWithRuns, FindsRecord, LinksAreTold, TellsPlace}
+use Rattle.ndef_c.specs.Links.{BeginsWithRuns, FindsRecord, LinksAreExact, TellsPlace}
 use Rattle.ndef_c.specs.Nested.{MayBeInPieces, TellsNumber}
 use Rattle.ndef_c.specs.Walks.{AreWalked, BeginsWithRun, ends_message, is_last_run}
 use Rattle.ndef_c.specs.declared.message.Place.{Place}
@@ -89,10 +89,10 @@ index_once items id (Some j) None x (inl e) = absurd (x.0 e)
 index_once items id (Some j) None x (inr l) = absurd (lacks (HasId id) items j x.1 l x.2)
 index_once items id (Some j) (Some k) x y = ap (λ n. Some n) (same_place (HasId id) items j k x.1 y.1 x.2 y.2)
 
-index_told : (bytes : List ℕ) (runs : List Run) (id : List ℕ) (index : Option ℕ) (p : Option Place) (has number at : ℕ) → IsIndexOf (map run_record runs) id index → FindsRecord bytes runs id p → TellsPlace p has number at
+index_reported : (bytes : List ℕ) (runs : List Run) (id : List ℕ) (index : Option ℕ) (p : Option Place) (has number at : ℕ) → IsIndexOf (map run_record runs) id index → FindsRecord bytes runs id p → TellsPlace p has number at
     → TellsNumber index has number
-index_told bytes runs id index None has number at x f t = subst (λ k. TellsNumber k has number) (index_once (map run_record runs) id None index f x) (t.0, t.1)
-index_told bytes runs id index (Some p) has number at x f t = subst (λ k. TellsNumber k has number) (index_once (map run_record runs) id (Some p.index) index f.0 x) (t.0, t.1)
+index_reported bytes runs id index None has number at x f t = subst (λ k. TellsNumber k has number) (index_once (map run_record runs) id None index f x) (t.0, t.1)
+index_reported bytes runs id index (Some p) has number at x f t = subst (λ k. TellsNumber k has number) (index_once (map run_record runs) id (Some p.index) index f.0 x) (t.0, t.1)
 
 -- ---- the links in order
 
@@ -154,8 +154,8 @@ same_links : OneMeaning → (profile : Profile) (outer items : List Item) (paylo
 same_links one profile outer items [] links h m = absurd h
 same_links one profile outer items (version ∷ bytes) links h m = subst (λ is. AreLinks outer (alternatives is) links) (sym (items_once one Standard profile items bytes h.0 m h.1)) h.2
 
-pub links_told : OneMeaning → StrictContentsAreRead → OneValue IsAlternative StandsForAc → (set : Sets) (holds : Conditions) → LinksAreTold set holds
-links_told one read value set holds limits bytes v handover links s k short l =
+pub links_reported : OneMeaning → StrictContentsAreRead → OneValue IsAlternative StandsForAc → (set : Sets) (holds : Conditions) → LinksAreExact set holds
+links_reported one read value set holds limits bytes v handover links s k short l =
     let b = begins_with_runs set holds limits bytes v s in
     record {
       may = record { handover = is_handover read limits.profile handover k l.0; short = short; message = (v.runs, b) };
@@ -169,7 +169,7 @@ links_told one read value set holds limits bytes v handover links s k short l =
               carrier = x.carrier.payload;
               lies = x.lies;
               stands = a.2;
-              index = index_told bytes v.runs a.0.ac.reference a.0.index x.refers.0 out.has_record out.record_index out.record_at a.3
+              index = index_reported bytes v.runs a.0.ac.reference a.0.index x.refers.0 out.has_record out.record_index out.record_at a.3
                   (subst (λ id. FindsRecord bytes v.runs id x.refers.0) (ap (λ z. z.reference) w) (subst (λ rs. FindsRecord bytes rs x.alternative.reference x.refers.0) same x.refers.1)) x.refers.2;
             },
           );

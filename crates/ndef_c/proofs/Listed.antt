@@ -36,7 +36,7 @@ sized (p ∷ ps) bytes (short, front, rest, e, s, more) =
     omega (arith, n, m, a)
 
 -- the payload of a record and its pieces are no more than its bytes
-pub record_size : (bytes : List ℕ) (at : ℕ) (r : NdefRecord) → IsRecordAt bytes at r → r.payload_length + r.pieces ≤ length bytes
+pub record_size : (bytes : List ℕ) (at : ℕ) (r : NdefRecord) → IsRecordAt bytes at r → r.payload_length + r.chunks ≤ length bytes
 record_size bytes at r x =
     let n = sized (pieces x.run) x.begins.front x.begins.spelled in
     let j = ap length x.begins.joined in
@@ -107,7 +107,7 @@ walk_within : (bytes : List ℕ) (at : ℕ) (rs : List Run) (end : ℕ) → AreW
 walk_within bytes at [] end w h = omega (arith, w, h)
 walk_within bytes at (r ∷ rs) end w h =
     let i = initial_of r (drop w.0 bytes) (drop at bytes) w.1 in
-    let n = split_size r.initial i.short i.behind (drop at bytes) i.split in
+    let n = split_size r.initial i.short i.following (drop at bytes) i.split in
     let k = length-drop at bytes in
     omega (arith, n, k)
 
@@ -150,11 +150,11 @@ same_end bytes at r s x y =
     omega (arith, e, a, b, m, n)
 
 -- where none are left, all are told
-pub all_told : (looks : Bool) (profile : Profile) (bytes : List ℕ) (at : ℕ) (runs done left : List Run) (told : List NdefItem) (taken place : ℕ) → AreItems looks profile bytes 0 done told at → runs ≡ done ++ left → AreWalked bytes at left taken
-    → length left ≡ 0 → place ≡ taken → AreItems looks profile bytes 0 runs told place
-all_told looks profile bytes at runs done [] told taken place a e w n p =
-    subst (λ rs. AreItems looks profile bytes 0 rs told place) (sym (e ∙ append-nil done)) (subst (AreItems looks profile bytes 0 done told) (w ∙ sym p) a)
-all_told looks profile bytes at runs done (q ∷ left) told taken place a e w n p = absurd (omega (arith, n))
+pub all_reported : (looks : Bool) (profile : Profile) (bytes : List ℕ) (at : ℕ) (runs done left : List Run) (reported : List NdefItem) (taken place : ℕ) → AreItems looks profile bytes 0 done reported at → runs ≡ done ++ left → AreWalked bytes at left taken
+    → length left ≡ 0 → place ≡ taken → AreItems looks profile bytes 0 runs reported place
+all_reported looks profile bytes at runs done [] reported taken place a e w n p =
+    subst (λ rs. AreItems looks profile bytes 0 rs reported place) (sym (e ∙ append-nil done)) (subst (AreItems looks profile bytes 0 done reported) (w ∙ sym p) a)
+all_reported looks profile bytes at runs done (q ∷ left) reported taken place a e w n p = absurd (omega (arith, n))
 
 -- what is said of a value, of the same words
 pub same_value : (looks : Bool) (profile : Profile) (k l a b p q : ℕ) (payload : List ℕ) (v w : Value) → l ≡ k → b ≡ a → q ≡ p → w ≡ v → HasValue looks profile k a p payload v → HasValue looks profile l b q payload w

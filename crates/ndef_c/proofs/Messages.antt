@@ -6,7 +6,7 @@ use Rattle.std.proofs.lemmas.List.{length-map, map-append}
 use Rattle.ndef_format.specs.Records.{Run}
 use Rattle.ndef_format.specs.Messages.{run_record}
 use Rattle.ndef_format.specs.HeadReasons.{is_set}
-use Rattle.ndef_piece.specs.Heads.{HeadsAreApart}
+use Rattle.ndef_piece.specs.Heads.{HeadsAreUnambiguous}
 use Rattle.ndef_types.specs.Contents.{IsFirstAt, Lack}
 use Rattle.ndef_types.specs.Links.{HasId, IsIndexOf}
 use Rattle.ndef_c.specs.Links.{BeginsWithRuns, IsPlaceOf}
@@ -14,7 +14,7 @@ use Rattle.ndef_c.specs.Runs.{HasRun, IsFirstRun}
 use Rattle.ndef_c.specs.Walks.{AreWalked, BeginsWithRun, LieBetween, ends_message, is_last_run}
 use Rattle.ndef_c.specs.declared.message.Place.{Place}
 use Rattle.ndef_c.specs.declared.run.FirstRun.{FirstRun}
-use Rattle.ndef_c.proofs.Ahead.{first_at, get_behind, lack_on}
+use Rattle.ndef_c.proofs.Ahead.{first_at, get_after, lack_on}
 use Rattle.ndef_c.proofs.Followed.{initial_of, one_record, split_size}
 use Rattle.ndef_c.proofs.Places.{ends, id_is}
 
@@ -68,10 +68,10 @@ pub record Onward (bytes : List ℕ) (runs : List Run) (next : ℕ) (done : List
   pub ends : ends_message run.initial run.later ≡ is_last_run more
   pub left : IsAmid run → Left bytes runs next (done ++ run ∷ [])
 
-left_behind : (bytes : List ℕ) (runs done : List Run) (next place : ℕ) (run : Run) (more : List Run) (end : ℕ) → runs ≡ done ++ run ∷ more → drop place bytes ≡ drop next bytes
+left_after : (bytes : List ℕ) (runs done : List Run) (next place : ℕ) (run : Run) (more : List Run) (end : ℕ) → runs ≡ done ++ run ∷ more → drop place bytes ≡ drop next bytes
     → ends_message run.initial run.later ≡ is_last_run more → IsAmid run → AreWalked bytes place more end → Left bytes runs next (done ++ run ∷ [])
-left_behind bytes runs done next place run [] end a d l e w = absurd (true≢false (sym l ∙ e))
-left_behind bytes runs done next place run (q ∷ more) end a d l e w = record {
+left_after bytes runs done next place run [] end a d l e w = absurd (true≢false (sym l ∙ e))
+left_after bytes runs done next place run (q ∷ more) end a d l e w = record {
   more = q ∷ more;
   all = a ∙ sym (append_assoc done (run ∷ []) (q ∷ more));
   some = λ x. cc;
@@ -79,35 +79,35 @@ left_behind bytes runs done next place run (q ∷ more) end a d l e w = record {
   walked = (w.0, subst (BeginsWithRun q (drop w.0 bytes)) d w.1, w.2, w.3);
 }
 
-onward_in : HeadsAreApart → (bytes : List ℕ) (runs done : List Run) (at next : ℕ) (run : Run) (more : List Run) (end : ℕ) → runs ≡ done ++ more → more ≢ [] → AreWalked bytes at more end
+onward_in : HeadsAreUnambiguous → (bytes : List ℕ) (runs done : List Run) (at next : ℕ) (run : Run) (more : List Run) (end : ℕ) → runs ≡ done ++ more → more ≢ [] → AreWalked bytes at more end
     → BeginsWithRun run (drop next bytes) (drop at bytes) → Onward bytes runs next done run
 onward_in apart bytes runs done at next run [] end a s w b = absurd (s refl)
 onward_in apart bytes runs done at next run (r ∷ more) end a s w b =
     let o = one_record r run (drop w.0 bytes) (drop next bytes) (drop at bytes) w.1 b in
     let all : runs ≡ done ++ run ∷ more = a ∙ ap (λ x. done ++ x ∷ more) o.0 in
     let ends : ends_message run.initial run.later ≡ is_last_run more = subst (λ x. ends_message x.initial x.later ≡ is_last_run more) o.0 w.2 in
-    record { more = more; all = all; ends = ends; left = λ e. left_behind bytes runs done next w.0 run more end all o.1 ends e w.3 }
+    record { more = more; all = all; ends = ends; left = λ e. left_after bytes runs done next w.0 run more end all o.1 ends e w.3 }
 
-pub onward : HeadsAreApart → {bytes : List ℕ} {runs done : List Run} {at : ℕ} → Left bytes runs at done → (next : ℕ) (run : Run) → BeginsWithRun run (drop next bytes) (drop at bytes) → Onward bytes runs next done run
+pub onward : HeadsAreUnambiguous → {bytes : List ℕ} {runs done : List Run} {at : ℕ} → Left bytes runs at done → (next : ℕ) (run : Run) → BeginsWithRun run (drop next bytes) (drop at bytes) → Onward bytes runs next done run
 onward apart {bytes} {runs} {done} {at} l next run b = onward_in apart bytes runs done at next run l.more l.end l.all l.some l.walked b
 
 -- ---- where a run ends
 
 -- the run at a place ends at the next one
-pub record Next (bytes behind rest : List ℕ) (at next : ℕ) (run : Run) : Type 0 where
+pub record Next (bytes following rest : List ℕ) (at next : ℕ) (run : Run) : Type 0 where
   pub begins : BeginsWithRun run (drop next bytes) (drop at bytes)
   pub rest_is : rest ≡ drop next bytes
   pub within : next ≤ length bytes
-  pub shorter : length rest < length behind
+  pub shorter : length rest < length following
 
-pub next_at : (run : Run) (bytes behind rest : List ℕ) (at : ℕ) → at ≤ length bytes → behind ≡ drop at bytes → BeginsWithRun run rest behind → Next bytes behind rest at (length bytes - length rest) run
-next_at run bytes behind rest at h e b =
-    let n = ends run bytes behind rest at h e b in
-    let i = initial_of run rest behind b in
-    let s = split_size run.initial i.short i.behind behind i.split in
+pub next_at : (run : Run) (bytes following rest : List ℕ) (at : ℕ) → at ≤ length bytes → following ≡ drop at bytes → BeginsWithRun run rest following → Next bytes following rest at (length bytes - length rest) run
+next_at run bytes following rest at h e b =
+    let n = ends run bytes following rest at h e b in
+    let i = initial_of run rest following b in
+    let s = split_size run.initial i.short i.following following i.split in
     let m = ap length i.others.joined ∙ length-append i.others.front rest in
     record {
-      begins = subst (BeginsWithRun run (drop (length bytes - length rest) bytes)) e (subst (λ y. BeginsWithRun run y behind) (sym n.rest_is) b);
+      begins = subst (BeginsWithRun run (drop (length bytes - length rest) bytes)) e (subst (λ y. BeginsWithRun run y following) (sym n.rest_is) b);
       rest_is = sym n.rest_is;
       within = omega arith;
       shorter = omega (arith, s, m);
@@ -126,7 +126,7 @@ pub place_of : (bytes : List ℕ) (runs done : List Run) (run : Run) (more : Lis
     → p.index ≡ length done → p.at ≡ at → IsPlaceOf bytes runs p
 place_of bytes runs done run more at next p a l b n e = record {
   run = run;
-  is = ap (λ k. slice_get runs k) n ∙ ap (λ rs. slice_get rs (length done)) a ∙ get_behind done run more;
+  is = ap (λ k. slice_get runs k) n ∙ ap (λ rs. slice_get rs (length done)) a ∙ get_after done run more;
   before = subst (λ rs. LieBetween bytes 0 rs p.at) (sym (ap (λ k. take k runs) n ∙ ap (take (length done)) a ∙ take_at done (run ∷ more) (length done) refl)) (subst (LieBetween bytes 0 done) (sym e) l);
   rest = drop next bytes;
   begins = subst (λ k. BeginsWithRun run (drop next bytes) (drop k bytes)) (sym e) b;

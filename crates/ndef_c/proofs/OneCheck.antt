@@ -10,8 +10,8 @@ use Rattle.ndef_c.specs.Feeding.{FeedsAreChecks, checked_status}
 use Rattle.ndef_c.specs.declared.checking.NdefChecked.{NdefChecked}
 
 -- two answers with equal parts are equal
-same_told : (out other : NdefChecked) → other.place ≡ out.place → other.records ≡ out.records → other.reason ≡ out.reason → other ≡ out
-same_told out other e f g = parts other.place out.place other.records out.records other.reason out.reason e f g
+same_reported : (out other : NdefChecked) → other.place ≡ out.place → other.records ≡ out.records → other.reason ≡ out.reason → other ≡ out
+same_reported out other e f g = parts other.place out.place other.records out.records other.reason out.reason e f g
   where
     parts : (p p' r r' n n' : ℕ) → p ≡ p' → r ≡ r' → n ≡ n'
         → ◌≡◌ {A = NdefChecked} (record { place = p; records = r; reason = n }) (record { place = p'; records = r'; reason = n' })
@@ -26,12 +26,12 @@ module _ (set : Sets) (holds : Conditions) (limits : LimitValues) (bytes : List 
   one_message one a b =
       let s = one limits bytes a.viewed _ b.viewed.taken a.views b.views.0 b.views.1.0 in
       let runs = sym b.views.1.1 ∙ s.runs_are in
-      same_told out other (b.place ∙ s.count_is ∙ sym a.place) (b.records ∙ ap length runs ∙ sym a.records) (b.reason ∙ sym a.reason)
+      same_reported out other (b.place ∙ s.count_is ∙ sym a.place) (b.records ∙ ap length runs ∙ sym a.records) (b.reason ∙ sym a.reason)
 
   one_refusal : OneRefusal set holds → RefusesAt set holds limits bytes out → RefusesAt set holds limits bytes other → other ≡ out
   one_refusal one a b =
       let s = one limits bytes b.refusal a.refusal b.refused a.refused in
-      same_told out other (b.place ∙ ap (λ r. r.at) s ∙ sym a.place) (b.records ∙ sym a.records) (b.reason ∙ ap (λ r. reason_number r.reason) s ∙ sym a.reason)
+      same_reported out other (b.place ∙ ap (λ r. r.at) s ∙ sym a.place) (b.records ∙ sym a.records) (b.reason ∙ ap (λ r. reason_number r.reason) s ∙ sym a.reason)
 
   one_check : OneView set holds → NeverRefusedInView set holds → OneRefusal set holds → (s t : ℕ)
       → ChecksTo set holds limits bytes s out → ChecksTo set holds limits bytes t other → (t ≡ s) × (other ≡ out)

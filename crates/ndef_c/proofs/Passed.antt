@@ -2,7 +2,7 @@
 use Rattle.std.proofs.Common.{ℕ, ◌∷◌, [], List, ◌++◌, drop}
 use Rattle.std.specs.List.{AllByRecursion}
 use Rattle.ndef_format.specs.Records.{Run}
-use Rattle.ndef_c.specs.Finding.{IsPassed, PassesTo, Sought}
+use Rattle.ndef_c.specs.Finding.{IsPassed, PassesTo, RecordQuery}
 use Rattle.ndef_c.specs.Walks.{BeginsWithRun}
 use Rattle.ndef_c.proofs.Walked.{between_on}
 
@@ -11,7 +11,7 @@ all_on P [] run h p = (p, tt)
 all_on P (r ∷ runs) run h p = (h.0, all_on P runs run h.1 p)
 
 -- one more
-pub passes_on : (P : Sought) (bytes : List ℕ) (from at next : ℕ) (run : Run) → PassesTo P bytes from at → BeginsWithRun run (drop next bytes) (drop at bytes) → IsPassed P run → PassesTo P bytes from next
+pub passes_on : (P : RecordQuery) (bytes : List ℕ) (from at next : ℕ) (run : Run) → PassesTo P bytes from at → BeginsWithRun run (drop next bytes) (drop at bytes) → IsPassed P run → PassesTo P bytes from next
 passes_on P bytes from at next run p b is = record {
   runs = p.runs ++ run ∷ [];
   between = between_on bytes from at next p.runs run p.between b;

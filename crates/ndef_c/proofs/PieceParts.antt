@@ -1,15 +1,15 @@
--- Where the pieces of a record lie, given one after another.
+-- The places of the pieces of a record, given one after another.
 use Rattle.std.proofs.Common.{◌≡◌, ℕ, ◌+◌, ◌-◌, ◌≤◌, ◌∷◌, [], drop, refl, sym, ◌∙◌, ap, subst, arith, List, ◌++◌, length, length-append, length-drop, append_assoc, append-nil, Bool, true, false, true≢false, inl, inr}
 use Rattle.std.proofs.lemmas.Grind.{flat_map-append}
 use Rattle.ndef_format.specs.Messages.{SpellsPieces, payload_of}
 use Rattle.ndef_format.specs.Records.{Follow, Piece, Run, pieces}
 use Rattle.ndef_format.specs.HeadReasons.{is_set}
 use Rattle.ndef_piece.specs.Whole.{BeginWithPiece, IsSplit, piece_of}
-use Rattle.ndef_c.specs.Pieces.{ArePiecesAt, IsLast, IsPieceAt, StepsOver}
+use Rattle.ndef_c.specs.Chunks.{ArePiecesAt, IsLast, IsPieceAt, StepsOver}
 use Rattle.ndef_c.specs.Walks.{BeginsWithRun, Lies}
 use Rattle.ndef_c.specs.declared.part.NdefPart.{NdefPart}
-use Rattle.ndef_c.specs.declared.pieces.Pieces.{Pieces}
-use Rattle.ndef_c.proofs.Ahead.{behind_piece}
+use Rattle.ndef_c.specs.declared.chunks.Pieces.{Pieces}
+use Rattle.ndef_c.proofs.Ahead.{after_piece}
 use Rattle.ndef_message.specs.Machine.SeenLaws.{same_split}
 use Rattle.ndef_c.proofs.Followed.{split_size}
 use Rattle.ndef_c.proofs.Places.{lie_in, shown_parts}
@@ -23,27 +23,27 @@ part_of bytes rest payload = record { at = length bytes - length rest - length p
 -- a piece that is shown at a place, and where the next one begins
 pub record PieceThere (header : ℕ) (kind id payload rest bytes : List ℕ) (place : ℕ) (part : NdefPart) : Type 0 where
   pub is : IsPieceAt bytes place (piece_of header kind id payload) part
-  pub behind : rest ≡ drop (part.at + part.length) bytes
+  pub following : rest ≡ drop (part.at + part.length) bytes
   pub within : part.at + part.length ≤ length bytes
 
-pub piece_there : (header : ℕ) (short : Bool) (kind id payload rest behind bytes : List ℕ) (place : ℕ) (part : NdefPart) → place ≤ length bytes → behind ≡ drop place bytes
-    → (is_set 3 header ≡ false → id ≡ []) → (i : IsSplit (piece_of header kind id payload) short rest behind)
+pub piece_there : (header : ℕ) (short : Bool) (kind id payload rest following bytes : List ℕ) (place : ℕ) (part : NdefPart) → place ≤ length bytes → following ≡ drop place bytes
+    → (is_set 3 header ≡ false → id ≡ []) → (i : IsSplit (piece_of header kind id payload) short rest following)
     → part.at ≡ length bytes - length rest - length payload → part.length ≡ length payload → PieceThere header kind id payload rest bytes place part
-piece_there header short kind id payload rest behind bytes place part h e none i a n =
-    let l = (lie_in header kind id payload rest bytes (shown_parts header short kind id payload rest behind bytes place e none i)).payload_lies in
+piece_there header short kind id payload rest following bytes place part h e none i a n =
+    let l = (lie_in header kind id payload rest bytes (shown_parts header short kind id payload rest following bytes place e none i)).payload_lies in
     let lies : Lies bytes part.at part.length payload = rw (a, n) l in
     let k = ap length i.joined ∙ length-append i.front rest in
     let m = ap length e ∙ length-drop place bytes in
-    let s = split_size (piece_of header kind id payload) short rest behind i in
+    let s = split_size (piece_of header kind id payload) short rest following i in
     let end : place + length i.front ≡ part.at + part.length = omega (arith, h, a, n, k, m, s) in
-    let back : rest ≡ drop (part.at + part.length) bytes = behind_piece (piece_of header kind id payload) short rest behind bytes place e i ∙ ap (λ j. drop j bytes) end in
+    let back : rest ≡ drop (part.at + part.length) bytes = after_piece (piece_of header kind id payload) short rest following bytes place e i ∙ ap (λ j. drop j bytes) end in
     record {
       is = record {
         short = short;
-        split = subst (λ b. IsSplit (piece_of header kind id payload) short (drop (part.at + part.length) bytes) b) e (subst (λ r. IsSplit (piece_of header kind id payload) short r behind) back i);
+        split = subst (λ b. IsSplit (piece_of header kind id payload) short (drop (part.at + part.length) bytes) b) e (subst (λ r. IsSplit (piece_of header kind id payload) short r following) back i);
         lies = lies;
       };
-      behind = back;
+      following = back;
       within = lies.within;
     }
 

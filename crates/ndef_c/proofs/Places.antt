@@ -1,4 +1,4 @@
--- Where the parts of a record lie.
+-- The places of the parts of a record.
 use Rattle.std.proofs.Common.{◌≡◌, ◌≢◌, ℕ, suc, ◌+◌, ◌-◌, ◌<◌, ◌≤◌, ◌∷◌, [], take, drop, refl, sym, ◌∙◌, ap, arith, List, ◌++◌, length, length-append, length-drop, append_assoc, take_at, drop_at, Bool, true, false}
 use Rattle.std.specs.Prelude.{unwrap_or, Some, None, if◌then◌else◌, nat_eq}
 use Rattle.std.proofs.lemmas.List.{drop-drop, length-take, take-append-drop}
@@ -30,8 +30,8 @@ lies_within bytes part at count l h =
     omega (arith, n, t, d, h)
 
 -- a part of what is after the first octet
-pub lies_behind : (payload bytes part : List ℕ) (at count : ℕ) → bytes ≡ drop 1 payload → at < length bytes → Lies bytes at count part → Lies payload (at + 1) count part
-lies_behind payload bytes part at count e h l = record {
+pub lies_after : (payload bytes part : List ℕ) (at count : ℕ) → bytes ≡ drop 1 payload → at < length bytes → Lies bytes at count part → Lies payload (at + 1) count part
+lies_after payload bytes part at count e h l = record {
   within = omega (arith, h, l.within, ap length e, length-drop 1 payload);
   are = ap (λ k. take count (drop k payload)) (omega arith) ∙ sym (ap (take count) (drop-drop at 1 payload)) ∙ ap (λ x. take count (drop at x)) (sym e) ∙ l.are;
   count_is = l.count_is;
@@ -54,10 +54,10 @@ pub record Ends (bytes rest : List ℕ) (at : ℕ) : Type 0 where
   pub rest_is : drop (length bytes - length rest) bytes ≡ rest
   pub onward : at < length bytes - length rest
 
-pub ends : (run : Run) (bytes behind rest : List ℕ) (at : ℕ) → at ≤ length bytes → behind ≡ drop at bytes → BeginsWithRun run rest behind → Ends bytes rest at
-ends run bytes behind rest at h e b =
-    let i = initial_of run rest behind b in
-    let l = split_size run.initial i.short i.behind behind i.split in
+pub ends : (run : Run) (bytes following rest : List ℕ) (at : ℕ) → at ≤ length bytes → following ≡ drop at bytes → BeginsWithRun run rest following → Ends bytes rest at
+ends run bytes following rest at h e b =
+    let i = initial_of run rest following b in
+    let l = split_size run.initial i.short i.following following i.split in
     let m = ap length i.others.joined ∙ length-append i.others.front rest in
     let n = ap length e ∙ length-drop at bytes in
     let all : bytes ≡ (take at bytes ++ b.front) ++ rest = sym (take-append-drop at bytes) ∙ ap (λ x. take at bytes ++ x) (sym e ∙ b.joined) ∙ sym (append_assoc (take at bytes) b.front rest) in
@@ -75,11 +75,11 @@ pub record Shown (header : ℕ) (kind id payload rest bytes : List ℕ) : Type 0
   pub head : List ℕ
   pub joined : bytes ≡ head ++ (kind ++ (id ++ (payload ++ rest)))
 
-pub shown_parts : (header : ℕ) (short : Bool) (kind id payload rest behind bytes : List ℕ) (at : ℕ) → behind ≡ drop at bytes → (is_set 3 header ≡ false → id ≡ []) → IsSplit (piece_of header kind id payload) short rest behind
+pub shown_parts : (header : ℕ) (short : Bool) (kind id payload rest following bytes : List ℕ) (at : ℕ) → following ≡ drop at bytes → (is_set 3 header ≡ false → id ≡ []) → IsSplit (piece_of header kind id payload) short rest following
     → Shown header kind id payload rest bytes
-shown_parts header short kind id payload rest behind bytes at e none i =
+shown_parts header short kind id payload rest following bytes at e none i =
     let o = octets (fields (piece_of header kind id payload) short) in
-    let j : behind ≡ o ++ (kind ++ (id ++ (payload ++ rest))) =
+    let j : following ≡ o ++ (kind ++ (id ++ (payload ++ rest))) =
     i.joined ∙ ap (λ x. x ++ rest) (i.spells.spelled ∙ ap (λ x. o ++ (kind ++ (x ++ payload))) (id_is (is_set 3 header) id none))
     ∙ append_assoc o (kind ++ (id ++ payload)) rest ∙ ap (λ x. o ++ x) (append_assoc kind (id ++ payload) rest ∙ ap (λ x. kind ++ x) (append_assoc id payload rest)) in
     record {
@@ -92,8 +92,8 @@ pub record LieIn (bytes kind id payload rest : List ℕ) : Type 0 where
   pub kind_lies : Lies bytes (length bytes - length rest - length payload - length id - length kind) (length kind) kind
   pub id_lies : Lies bytes (length bytes - length rest - length payload - length id) (length id) id
   pub payload_lies : Lies bytes (length bytes - length rest - length payload) (length payload) payload
-  pub id_behind : length bytes - length rest - length payload - length id ≡ length bytes - length rest - length payload - length id - length kind + length kind
-  pub payload_behind : length bytes - length rest - length payload ≡ length bytes - length rest - length payload - length id + length id
+  pub id_after : length bytes - length rest - length payload - length id ≡ length bytes - length rest - length payload - length id - length kind + length kind
+  pub payload_after : length bytes - length rest - length payload ≡ length bytes - length rest - length payload - length id + length id
 
 pub lie_in : (header : ℕ) (kind id payload rest bytes : List ℕ) → Shown header kind id payload rest bytes → LieIn bytes kind id payload rest
 lie_in header kind id payload rest bytes s =
@@ -106,15 +106,15 @@ lie_in header kind id payload rest bytes s =
       kind_lies = lies bytes h kind (id ++ (payload ++ rest)) _ _ s.joined refl (omega (arith, n, a, b, d));
       id_lies = lies bytes (h ++ kind) id (payload ++ rest) _ _ (s.joined ∙ sym (append_assoc h kind _)) refl (omega (arith, n, a, b, d));
       payload_lies = lies bytes ((h ++ kind) ++ id) payload rest _ _ (s.joined ∙ sym (append_assoc h kind _) ∙ sym (append_assoc (h ++ kind) id _)) refl (omega (arith, n, a, b, d));
-      id_behind = omega (arith, n, a, b, d);
-      payload_behind = omega (arith, n, a, b, d);
+      id_after = omega (arith, n, a, b, d);
+      payload_after = omega (arith, n, a, b, d);
     }
 
 -- after the end of the bytes is no record
 pub none_beyond : (bytes : List ℕ) (at : ℕ) → length bytes ≤ at → IsRecordThere bytes at → ⊥
 none_beyond bytes at h r =
     let i = initial_of r.0 r.1 (drop at bytes) r.2 in
-    let n = split_size r.0.initial i.short i.behind (drop at bytes) i.split in
+    let n = split_size r.0.initial i.short i.following (drop at bytes) i.split in
     let k = length-drop at bytes in
     omega (arith, n, k, h)
 
@@ -124,9 +124,9 @@ byte_is_bit true = refl
 byte_is_bit false = refl
 
 -- a flag that is given as a number
-pub bit_told : (n : ℕ) (b : Bool) → n ≡ bit b → nat_eq n 1 ≡ b
-bit_told n true e = ap (λ k. nat_eq k 1) e
-bit_told n false e = ap (λ k. nat_eq k 1) e
+pub bit_reported : (n : ℕ) (b : Bool) → n ≡ bit b → nat_eq n 1 ≡ b
+bit_reported n true e = ap (λ k. nat_eq k 1) e
+bit_reported n false e = ap (λ k. nat_eq k 1) e
 
 pub bit_is_set : (n : ℕ) (b : Bool) → n ≡ bit b → n ≡ 1 → b ≡ true
 bit_is_set n true e o = refl

@@ -1,4 +1,4 @@
--- What is said of a poster that is written, and the series of its records.
+-- The properties of a poster that is written, and the series of its records.
 use Rattle.std.proofs.Common.{◌≡◌, ℕ, ◌%◌, ◌<◌, ◌≤◌, ◌^◌, ◌==◌, Bool, true, false, List, [], ◌∷◌, ◌++◌, map, length, refl, sym, ◌∙◌, ap, subst, arith, inl, inr, append-nil, Bor, Some, None}
 use Rattle.std.specs.Prelude.{IfNone, IsUtf8, Option, ◌⊎◌, if◌then◌else◌}
 use Rattle.std.specs.List.{All}
@@ -13,16 +13,16 @@ use Rattle.ndef_types.specs.Decoding.{OnePayload}
 use Rattle.ndef_types.specs.Values.{WritesUri}
 use Rattle.ndef_c.specs.AlternativeWrites.{IsPartWithin}
 use Rattle.ndef_c.specs.Appending.{well_known}
-use Rattle.ndef_c.specs.Made.{made_item}
+use Rattle.ndef_c.specs.PendingRecord.{made_item}
 use Rattle.ndef_c.specs.PosterParts.{IsUriItem, MayBeIcon, MayBeTitle, icon_item, title_item}
 use Rattle.ndef_c.specs.PosterWrites.{AreSaid, GivesPoster, MayBeAsked, MayBeMedia, MayBePoster, MayBeUri, PosterAsked, asked_for, media_of, poster_items, uri_of}
-use Rattle.ndef_c.specs.Rooms.{Gives}
-use Rattle.ndef_c.specs.Series.{AreSeries, IsSeries, MayBeMessage, all_items, series_items}
+use Rattle.ndef_c.specs.Buffers.{Gives}
+use Rattle.ndef_c.specs.RecordList.{AreSeries, IsSeries, MayBeMessage, all_items, series_items}
 use Rattle.ndef_c.specs.declared.poster_parts.NdefIconWriting.{NdefIconWriting}
 use Rattle.ndef_c.specs.declared.poster_parts.NdefTitleWriting.{NdefTitleWriting}
-use Rattle.ndef_c.specs.declared.poster_writing.Said.{Said}
-use Rattle.ndef_c.specs.declared.series.Series.{Series}
-use Rattle.ndef_c.specs.declared.series.Series.TheVariants as several
+use Rattle.ndef_c.specs.declared.poster_writing.PosterProperties.{PosterProperties}
+use Rattle.ndef_c.specs.declared.record_list.RecordList.{RecordList}
+use Rattle.ndef_c.specs.declared.record_list.RecordList.TheVariants as several
 
 pub none_by : {A P Q : Type 0} (r : Option A) → (P → Q) → IfNone r P → IfNone r Q
 none_by None f h = f h
@@ -69,7 +69,7 @@ joined : (t i : List Item) {u v : Item} {a b n o m k : List Item} → u ≡ v �
 joined t i e f g h = λ j. e j ∷ (t ++ (f j ++ (g j ++ (h j ++ append-nil i j))))
 
 -- the series of the records of a poster
-pub record ArePoster (a : PosterAsked) (s : Said) (titles icons : Series) : Type 0 where
+pub record ArePoster (a : PosterAsked) (s : PosterProperties) (titles icons : RecordList) : Type 0 where
   pub are_titles : series_items titles ≡ map (title_item a.bytes) a.titles
   pub are_icons : series_items icons ≡ map (icon_item a.bytes) a.icons
   pub each_title : IsSeries titles → All (MayBeTitle a.bytes) a.titles
@@ -77,7 +77,7 @@ pub record ArePoster (a : PosterAsked) (s : Said) (titles icons : Series) : Type
   pub each_icon : IsSeries icons → All (MayBeIcon a.bytes) a.icons
   pub is_icons : All (MayBeIcon a.bytes) a.icons → IsSeries icons
 
-pub are_poster : (a : PosterAsked) (s : Said) (bytes : Bor (List ℕ)) (titles : Bor (List NdefTitleWriting)) (icons : Bor (List NdefIconWriting)) → bytes.now ≡ a.bytes → titles.now ≡ a.titles → icons.now ≡ a.icons
+pub are_poster : (a : PosterAsked) (s : PosterProperties) (bytes : Bor (List ℕ)) (titles : Bor (List NdefTitleWriting)) (icons : Bor (List NdefIconWriting)) → bytes.now ≡ a.bytes → titles.now ≡ a.titles → icons.now ≡ a.icons
     → ArePoster a s (several.Titles bytes titles) (several.Icons bytes icons)
 are_poster a s bytes titles icons e f g =
     let n = length-map titles.now (title_item bytes.now) in
@@ -91,10 +91,10 @@ are_poster a s bytes titles icons e f g =
       is_icons = λ h j l t. (subst (All (MayBeIcon bytes.now)) (sym g) (subst (λ b. All (MayBeIcon b) a.icons) (sym e) h)) j t (omega (arith, k, l));
     }
 
-abbrev pub poster_series : Said → (titles icons : Series) → List Series
+abbrev pub poster_series : PosterProperties → (titles icons : RecordList) → List RecordList
 poster_series s titles icons = several.One s.uri ∷ titles ∷ s.action ∷ s.size ∷ s.media ∷ icons ∷ []
 
-pub poster_joined : {a : PosterAsked} {s : Said} {titles icons : Series} → ArePoster a s titles icons → (x : AreSaid a s) → all_items (poster_series s titles icons) ≡ poster_items x.said.payload a
+pub poster_joined : {a : PosterAsked} {s : PosterProperties} {titles icons : RecordList} → ArePoster a s titles icons → (x : AreSaid a s) → all_items (poster_series s titles icons) ≡ poster_items x.said.payload a
 poster_joined {a} {s} {titles} {icons} p x =
     ap (λ t. (made_item s.uri ∷ []) ++ (t ++ (series_items s.action ++ (series_items s.size ++ (series_items s.media ++ (series_items icons ++ [])))))) p.are_titles
     ∙ ap (λ i. (made_item s.uri ∷ []) ++ (map (title_item a.bytes) a.titles ++ (series_items s.action ++ (series_items s.size ++ (series_items s.media ++ (i ++ [])))))) p.are_icons
@@ -105,7 +105,7 @@ same_payload : OnePayload IsUtf8 WritesUri → (a : PosterAsked) (p q : List ℕ
 same_payload one a p q u v = let w = one (uri_of a) u.utf8 in w.1.1 p u.is ∙ sym (w.1.1 q v.is)
 
 -- the message of these records is that of the poster
-pub to_poster : {a : PosterAsked} {s : Said} {titles icons : Series} → ArePoster a s titles icons → (x : AreSaid a s) → MayBeMessage [] (poster_series s titles icons) → MayBePoster a
+pub to_poster : {a : PosterAsked} {s : PosterProperties} {titles icons : RecordList} → ArePoster a s titles icons → (x : AreSaid a s) → MayBeMessage [] (poster_series s titles icons) → MayBePoster a
 to_poster {a} {s} {titles} {icons} p x m = record {
   said = x.said;
   titles = p.each_title (m.each 1 several.Nothing (omega arith));
@@ -114,7 +114,7 @@ to_poster {a} {s} {titles} {icons} p x m = record {
   fits = subst (λ t. length (canonical t) < 2 ^ 32) (poster_joined p x) m.fits;
 }
 
-pub from_poster : OnePayload IsUtf8 WritesUri → {a : PosterAsked} {s : Said} {titles icons : Series} → ArePoster a s titles icons → (x : AreSaid a s) → MayBePoster a → MayBeMessage [] (poster_series s titles icons)
+pub from_poster : OnePayload IsUtf8 WritesUri → {a : PosterAsked} {s : PosterProperties} {titles icons : RecordList} → ArePoster a s titles icons → (x : AreSaid a s) → MayBePoster a → MayBeMessage [] (poster_series s titles icons)
 from_poster one {a} {s} {titles} {icons} p x m =
     let e : poster_items m.said.payload a ≡ all_items (poster_series s titles icons) = ap (λ t. poster_items t a) (same_payload one a m.said.payload x.said.payload m.said.uri x.said.uri) ∙ sym (poster_joined p x) in
     record {
@@ -124,7 +124,7 @@ from_poster one {a} {s} {titles} {icons} p x m =
     }
 
 -- what is given of these records is what is written for the poster
-pub gives_poster : {a : PosterAsked} {s : Said} {titles icons : Series} → ArePoster a s titles icons → (x : AreSaid a s) → MayBeMessage [] (poster_series s titles icons) → (before after : List ℕ) (count status : ℕ)
+pub gives_poster : {a : PosterAsked} {s : PosterProperties} {titles icons : RecordList} → ArePoster a s titles icons → (x : AreSaid a s) → MayBeMessage [] (poster_series s titles icons) → (before after : List ℕ) (count status : ℕ)
     → Gives (canonical (all_items (poster_series s titles icons))) before after count status → GivesPoster a before after count status
 unfolding to_poster
 gives_poster {a} {s} {titles} {icons} p x m before after count status g = record {
@@ -139,7 +139,7 @@ gives_poster {a} {s} {titles} {icons} p x m before after count status g = record
 
 -- ---- step by step
 
-pub series_as : {items others : List Item} {s : Series} → AreSeries items s → items ≡ others → AreSeries others s
+pub series_as : {items others : List Item} {s : RecordList} → AreSeries items s → items ≡ others → AreSeries others s
 series_as h e = record { holds = h.holds; may = h.may; are = h.are ∙ e }
 
 pub uri_said : (a : PosterAsked) (uri : List ℕ) (i : Item) → IsPartWithin (length a.bytes) a.how.uri → uri ≡ uri_of a → IsUtf8 uri → IsUriItem uri i

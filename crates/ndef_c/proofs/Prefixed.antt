@@ -1,8 +1,8 @@
--- Prefixes of URIs, and what payloads with them stand for.
+-- Prefixes of URIs, and the values of payloads with them.
 use Rattle.std.proofs.Common.{◌≡◌, ℕ, zero, suc, ◌<◌, ◌≤◌, Bool, true, List, [], ◌∷◌, ◌++◌, length, get_or, refl, ◌∙◌, ap₂, arith}
 use Rattle.std.specs.Prelude.{◌&&◌, nat_lt}
 use Rattle.std.proofs.lemmas.Bool.{and_parts, ltb-true}
-use Rattle.ndef_value.specs.SliceLaws.{rest_from, behind_drop}
+use Rattle.ndef_value.specs.SliceLaws.{rest_from, after_drop}
 use Rattle.ndef_types.specs.Values.{StandsForUri}
 use Rattle.ndef_types.specs.Prefixes.{prefixes, prefix_of}
 
@@ -27,4 +27,4 @@ short_prefix code = short_at prefixes code prefixes_short
 -- a code and the rest of a URI stand for it
 pub stands_for : (payload front rest : List ℕ) → 1 ≤ length payload → front ≡ prefix_of (get_or payload 0 0) → rest ≡ rest_from 1 payload → StandsForUri payload (front ++ rest)
 stands_for [] front rest h e f = absurd (omega (arith, h))
-stands_for (x ∷ s) front rest h e f = ap₂ (λ a b. a ++ b) e (f ∙ behind_drop 1 (x ∷ s))
+stands_for (x ∷ s) front rest h e f = ap₂ (λ a b. a ++ b) e (f ∙ after_drop 1 (x ∷ s))

@@ -15,7 +15,7 @@ use Rattle.ndef_message.specs.Written.{written_piece, is_short}
 use Rattle.ndef_message.specs.WrittenLaws.{first_piece_is, later_is, first-step, later-step, whole_run}
 use Rattle.ndef_c.specs.Writes.{LastBegins, octets_of_piece, record_octets, octets_by, one_by_one, asked_octets, form_of, is_first, is_last, size_of}
 use Rattle.ndef_c.specs.declared.writing.NdefWriting.{NdefWriting}
-use Rattle.ndef_c.specs.declared.writing.Way.{Way}
+use Rattle.ndef_c.specs.declared.writing.Placement.{Placement}
 
 -- the octets of what is left of a payload
 abbrev pub left_octets : Form → Bool → ℕ → List ℕ → List ℕ
@@ -52,7 +52,7 @@ pub octets_most : (form : Form) (first last : Bool) (size : Option ℕ) (most : 
 octets_most form first last size most m e small = ap (λ r. flat_map (written_piece form) (pieces r)) (run_most first last size most m e small)
 
 -- what is written so is what is asked
-pub asked_by : (how : NdefWriting) (way : Way) (m : Item) → way.first ≡ is_first how → way.last ≡ is_last how → way.form ≡ form_of how → way.size ≡ unwrap_or (size_of how) 4294967295 → length m.payload < 2 ^ 32
+pub asked_by : (how : NdefWriting) (way : Placement) (m : Item) → way.first ≡ is_first how → way.last ≡ is_last how → way.form ≡ form_of how → way.size ≡ unwrap_or (size_of how) 4294967295 → length m.payload < 2 ^ 32
     → octets_by way m ≡ asked_octets how m
 asked_by how way m f l o s small =
     ap (λ x. record_octets x way.first way.last (Some way.size) m) o
@@ -63,11 +63,11 @@ asked_by how way m f l o s small =
 
 -- of the pieces of a record these octets are written, the last of them from a place on, and so much is left of its payload
 pub record Cutting (form : Form) (first last : Bool) (size : ℕ) (m : Item) (rest done : List ℕ) (at : ℕ) : Type 0 where
-  pub told : List Piece
+  pub reported : List Piece
   pub piece : Piece
-  pub pieces_are : pieces (cut_run first last (Some size) m) ≡ told ++ piece ∷ later_pieces last (all_parts size rest)
-  pub written : done ≡ flat_map (written_piece form) (told ++ piece ∷ [])
-  pub at_is : at ≡ length (flat_map (written_piece form) told)
+  pub pieces_are : pieces (cut_run first last (Some size) m) ≡ reported ++ piece ∷ later_pieces last (all_parts size rest)
+  pub written : done ≡ flat_map (written_piece form) (reported ++ piece ∷ [])
+  pub at_is : at ≡ length (flat_map (written_piece form) reported)
 
 pub cutting_at : (form : Form) (first last alone : Bool) (size : ℕ) (m : Item) (head : Head) (part rest : List ℕ) → 1 ≤ size → part ≡ take size m.payload → rest ≡ drop size m.payload → alone ≡ (length rest == 0)
     → written_fields head ≡ fields (first_piece first (alone && last) (not alone) m part) (is_short form (length part)) → Cutting form first last size m rest (octets_of_piece head m.kind m.id part) 0
@@ -75,7 +75,7 @@ cutting_at form first last alone size m head part rest h e f n w =
     let none : alone ≡ none_left (all_parts size rest) = n ∙ sym (none_left-all_parts size rest h) in
     let piece = first_piece first (alone && last) (not alone) m part in
     record {
-      told = [];
+      reported = [];
       piece = piece;
       pieces_are = sym (
           ap (λ b. first_piece first (b && last) (not b) m part ∷ later_pieces last (all_parts size rest)) none
@@ -97,18 +97,18 @@ cutting_on {form} {first} {last} {size} {m} {rest} {done} {at} ends part later h
     let here : octets_of_piece head [] [] part ≡ flat_map (written_piece form) (piece ∷ []) =
     later_is form (ends && last) (not ends) part (written_fields head) w ∙ sym (append-nil (written_piece form piece)) in
     record {
-      told = c.told ++ c.piece ∷ [];
+      reported = c.reported ++ c.piece ∷ [];
       piece = piece;
-      pieces_are = c.pieces_are ∙ ap (λ ps. c.told ++ c.piece ∷ ps) step ∙ sym (append_assoc c.told (c.piece ∷ []) (piece ∷ later_pieces last (all_parts size later)));
-      written = ap₂ (λ x y. x ++ y) c.written here ∙ sym (flat_map-append (written_piece form) (c.told ++ c.piece ∷ []) (piece ∷ []));
+      pieces_are = c.pieces_are ∙ ap (λ ps. c.reported ++ c.piece ∷ ps) step ∙ sym (append_assoc c.reported (c.piece ∷ []) (piece ∷ later_pieces last (all_parts size later)));
+      written = ap₂ (λ x y. x ++ y) c.written here ∙ sym (flat_map-append (written_piece form) (c.reported ++ c.piece ∷ []) (piece ∷ []));
       at_is = ap length c.written;
     }
 
 pub cutting_end : {form : Form} {first last : Bool} {size : ℕ} {m : Item} {rest done : List ℕ} {at : ℕ} → Cutting form first last size m rest done at → 1 ≤ size → length rest ≡ 0 → LastBegins form first last (Some size) m at
 cutting_end {form} {first} {last} {size} {m} {rest} {done} {at} c h e = record {
-  done = c.told;
+  done = c.reported;
   piece = c.piece;
-  pieces_are = c.pieces_are ∙ ap (λ ps. c.told ++ c.piece ∷ later_pieces last ps) (all_parts-none size rest h e);
+  pieces_are = c.pieces_are ∙ ap (λ ps. c.reported ++ c.piece ∷ later_pieces last ps) (all_parts-none size rest h e);
   at_is = c.at_is;
 }
 

@@ -8,11 +8,11 @@ use Rattle.ndef_format.specs.Canonical.{canonical, is_nil}
 use Rattle.ndef_format.specs.Messages.{Item}
 use Rattle.ndef_message.specs.declared.form.Form.TheVariants.{Short}
 use Rattle.ndef_message.specs.Written.{ShortIsCanonical}
-use Rattle.ndef_c.specs.Made.{made_item}
-use Rattle.ndef_c.specs.Rooms.{Puts}
-use Rattle.ndef_c.specs.Series.{IsWritten, place_after, left_octets}
+use Rattle.ndef_c.specs.PendingRecord.{made_item}
+use Rattle.ndef_c.specs.Buffers.{Puts}
+use Rattle.ndef_c.specs.RecordList.{IsWritten, place_after, left_octets}
 use Rattle.ndef_c.specs.Writes.{one_by_one, record_octets}
-use Rattle.ndef_c.specs.declared.making.Made.{Made}
+use Rattle.ndef_c.specs.declared.making.PendingRecord.{PendingRecord}
 use Rattle.ndef_c.specs.declared.out.Out.{Out}
 use Rattle.ndef_c.specs.declared.series_writing.Place.{Place}
 use Rattle.ndef_c.proofs.Puts.{puts_on}
@@ -63,8 +63,8 @@ place_of : (k l : ℕ) (f g : Bool) → k ≡ l → f ≡ g → ◌≡◌ {A = P
 place_of k l f g e h = rw (e, h) refl
 
 -- after records and others after them
-pub behind_on : (p : Place) (xs ys : List Item) → place_after (place_after p xs) ys ≡ place_after p (xs ++ ys)
-behind_on p xs ys =
+pub after_on : (p : Place) (xs ys : List Item) → place_after (place_after p xs) ys ≡ place_after p (xs ++ ys)
+after_on p xs ys =
     let k = length-append xs ys in
     place_of _ _ _ _ (omega (arith, k)) (and_assoc p.first (is_nil xs) (is_nil ys) ∙ ap (λ b. p.first && b) (nil_both xs ys))
 
@@ -76,7 +76,7 @@ written_none p o = record { put = o; next = place_of _ _ _ _ (omega arith) (sym 
 pub written_on : {p q r : Place} {xs ys : List Item} {old mid new : Out} → IsWritten p xs old mid q → IsWritten q ys mid new r → IsWritten p (xs ++ ys) old new r
 written_on {p} {q} {r} {xs} {ys} {old} {mid} {new} w v = record {
   put = subst (λ t. Puts old t new) (ap (λ s. left_octets p.first p.left xs ++ left_octets s.first s.left ys) w.next ∙ sym (left_on p.first p.left xs ys)) (puts_on w.put v.put);
-  next = v.next ∙ ap (λ s. place_after s ys) w.next ∙ behind_on p xs ys;
+  next = v.next ∙ ap (λ s. place_after s ys) w.next ∙ after_on p xs ys;
 }
 
 -- after some of the records those that follow are left
@@ -140,7 +140,7 @@ step_all {X} {p} {q} {old} {mid} f xs k d l left w =
     step (flat_map f xs) (f (get_or xs k d)) (flat_map f (drop (suc k) xs)) (flat_map f (take (k + 1) xs)) (all_split f xs k d l) (items_more f xs k d l) left w
 
 -- the record of an element with an index
-pub item_at : {X : Type 0} (r : Option Made) (f : X → Item) (xs : List X) (k : ℕ) (x : X) → slice_get xs k ≡ Some x → IfSome r (λ m. made_item m ≡ f x)
+pub item_at : {X : Type 0} (r : Option PendingRecord) (f : X → Item) (xs : List X) (k : ℕ) (x : X) → slice_get xs k ≡ Some x → IfSome r (λ m. made_item m ≡ f x)
     → IfSome r (λ m. slice_get (map f xs) k ≡ Some (made_item m))
 item_at None f xs k x e h = h
 item_at (Some m) f xs k x e h = slice_get-map f xs k ∙ ap (option_map f) e ∙ ap Some (sym h)

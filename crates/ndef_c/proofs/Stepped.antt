@@ -6,8 +6,8 @@ use Rattle.std.proofs.lemmas.List.{take-append-drop, take_all}
 use Rattle.ndef_lang.specs.Language.{Continues, StepsAll}
 
 -- what may follow the octet is what makes a payload with it
-pub behind_octet : (set start next : List ℕ → Type 0) (octet : ℕ) (r : List ℕ) → Continues set start [] → Continues start next (octet ∷ []) → next r ↔ set (octet ∷ r)
-behind_octet set start next octet r f g = (λ h. (f (octet ∷ r)).0 ((g r).0 h), λ h. (g r).1 ((f (octet ∷ r)).1 h))
+pub after_octet : (set start next : List ℕ → Type 0) (octet : ℕ) (r : List ℕ) → Continues set start [] → Continues start next (octet ∷ []) → next r ↔ set (octet ∷ r)
+after_octet set start next octet r f g = (λ h. (f (octet ∷ r)).0 ((g r).0 h), λ h. (g r).1 ((f (octet ∷ r)).1 h))
 
 no_octets : (r : List ℕ) → length r ≤ 0 → r ≡ []
 no_octets [] h = refl

@@ -1,4 +1,4 @@
--- Where the parts of a text lie, and its payload.
+-- The places of the parts of a text, and its payload.
 use Rattle.std.proofs.Common.{◌≡◌, ℕ, ◌+◌, ◌-◌, ◌≤◌, Bool, true, true≢false, encode_utf8_all, ◌∷◌, [], false, take, drop, sym, ◌∙◌, ap, arith, List, ◌++◌, length, get_or, length-drop}
 use Rattle.std.proofs.lemmas.List.{drop-drop, take_all, length-take-le}
 use Rattle.std.proofs.lemmas.Str.{encodes-chars}

@@ -16,7 +16,7 @@ use Rattle.ndef_types.specs.Posters.{is_text}
 use Rattle.ndef_c.specs.Posters.{HasPosterRecords}
 use Rattle.ndef_c.specs.Titles.{IsPosterPayload}
 use Rattle.ndef_c.specs.Walks.{Lies}
-use Rattle.ndef_c.proofs.Ahead.{get_behind}
+use Rattle.ndef_c.proofs.Ahead.{get_after}
 
 abbrev pub is_title : Item → Bool
 is_title i = is_text (kind_in SmartPoster i.tnf i.kind)
@@ -38,7 +38,7 @@ is_title_of i e = ap is_text e
 pub title_text : (items xs : List Item) (payload : List ℕ) (i : Item) → HasPosterRecords Standard items payload → (more : List Item) × (items ≡ xs ++ i ∷ more) → is_title i ≡ true → IsText i.payload
 title_text items xs payload i h w e =
     subst (λ k. IsPayload k Standard i.payload) (of_text i e)
-    (has_at (λ j. IsPayload (kind_in SmartPoster j.tnf j.kind) Standard j.payload) items (length xs) i h.1.contents.members (ap (λ ys. slice_get ys (length xs)) w.1 ∙ get_behind xs i w.0))
+    (has_at (λ j. IsPayload (kind_in SmartPoster j.tnf j.kind) Standard j.payload) items (length xs) i h.1.contents.members (ap (λ ys. slice_get ys (length xs)) w.1 ∙ get_after xs i w.0))
 
 -- the records of a poster
 pub poster_of : (payload : List ℕ) → IsPosterPayload payload → (items : List Item) × HasPosterRecords Standard items payload

@@ -1,4 +1,4 @@
--- What a check takes, walked from record to record.
+-- The messages that a check accepts, walked from record to record.
 use Rattle.std.proofs.Common.{◌≡◌, ℕ, ◌+◌, ◌≤◌, ◌∷◌, [], take, drop, refl, sym, ◌∙◌, ap, subst, arith, List, ◌++◌, length, length-append, length-take-le, append_assoc, append-nil, drop_at, true, false}
 use Rattle.std.specs.List.{AllByRecursion}
 use Rattle.std.proofs.lemmas.List.{take-append-drop, take-take}

@@ -1,4 +1,4 @@
--- Which alternative carriers may be written, and what is written of them.
+-- The alternative carriers that may be written, and their octets.
 use Rattle.std.specs.Prelude.{◌≡◌, ℕ, ◌+◌, ◌<◌, ◌≤◌, List, [], length, map, take, drop}
 use Rattle.std.specs.List.{All}
 use Rattle.ndef_format.specs.Handovers.{IsAlternative}
@@ -35,14 +35,14 @@ pub record IsAlternativeOf (power : ℕ) (bytes : List ℕ) (parts : List NdefPa
   pub references_are : references v ≡ map (part_of bytes) parts
   pub rest : v.rest ≡ []
 
--- Connection Handover 1.2, Alternative Carrier record: what is written for the alternative carrier,
+-- Connection Handover 1.2, Alternative Carrier record: the octets that are written for the alternative carrier,
 -- which is read as it
 pub record WritesAlternative (v : AcValue) (payload : List ℕ) : Type 0 where
   pub is : WritesAc v payload
   pub in_set : IsAlternative payload
   pub stands : StandsForAc payload v
 
--- what is written for that alternative carrier is given
+-- the octets that are written for that alternative carrier are given
 pub record GivesAlternative (power : ℕ) (bytes : List ℕ) (parts : List NdefPart) (before after : List ℕ)
     (count status : ℕ) : Type 0 where
   pub alternative : AcValue

@@ -1,4 +1,4 @@
--- What is said of the payload of an alternative carrier.
+-- The result for the payload of an alternative carrier.
 use Rattle.std.specs.Prelude.{◌≡◌, ◌==◌, ℕ, ◌+◌, ◌^◌, ◌<◌, ◌≤◌, List, ◌∷◌, length, take, slice_get, sum_by, Some, if◌then◌else◌}
 use Rattle.ndef_format.specs.Handovers.{IsAlternative}
 use Rattle.ndef_types.specs.Values.{AcValue, StandsForAc, power_code}

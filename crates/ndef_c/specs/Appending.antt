@@ -1,4 +1,4 @@
--- Texts and URIs that are appended to a message in a room.
+-- Texts and URIs that are appended to a message in a buffer.
 use Rattle.std.specs.Prelude.{ℕ, ◌<◌, ◌^◌, List, length}
 use Rattle.ndef_format.specs.Kinds.{kind_name}
 use Rattle.ndef_format.specs.Messages.{Item}
@@ -27,17 +27,17 @@ asked_of flags language text = record { flags = flags; language = language; text
 abbrev pub text_record : List ℕ → Asked → Item
 text_record id a = well_known kinds.Text id (text_payload (asked_text a.flags a.language a.text))
 
--- NDEF 1.0, ID_LENGTH: one more record with the id can stand after the message
+-- NDEF 1.0, ID_LENGTH: one more record with the id may follow the message
 pub record MayBeJoined (id : List ℕ) (h : Holding) : Type 0 where
   pub short : length id < 256
   pub grown : MayBeGrown h
 
--- RTD Text 1.0: the record of a text that may be written can stand there
+-- RTD Text 1.0: the record of a text that may be written may be added there
 pub record MayBeTextThere (id : List ℕ) (a : Asked) (h : Holding) : Type 0 where
   pub text : MayBeText a.flags a.language a.text
   pub joined : MayBeJoined id h
 
--- RTD URI 1.0: the record of a URI is written after the message, as WritesUri says
+-- RTD URI 1.0: the record of a URI is written after the message, as WritesUri defines it
 pub record GivesUriThere (id uri : List ℕ) (before after : Holding) (count status : ℕ) : Type 0 where
   pub payload : List ℕ
   pub is : WritesUri uri payload

@@ -1,26 +1,26 @@
--- A message that is built in a room, record after record.
+-- A message that is built in a buffer, record after record.
 use Rattle.std.specs.Prelude.{◌≡◌, ℕ, ◌+◌, ◌-◌, ◌<◌, ◌≤◌, ◌==◌, ◌⊎◌, Bool, true, false, List, [], ◌++◌, length, take, drop, slice_index, slice_set}
 use Rattle.ndef_format.specs.Messages.{Item}
 use Rattle.ndef_format.specs.Records.{Piece}
 use Rattle.ndef_piece.specs.Whole.{IsSplit}
 use Rattle.ndef_c.specs.Writes.{LastBegins, MayBeWritten, form_of, record_octets, size_of}
-use Rattle.ndef_c.specs.declared.status.TheConstants.{OK, NO_ROOM}
-use Rattle.ndef_c.specs.declared.building.NdefBuilt.{NdefBuilt}
+use Rattle.ndef_c.specs.declared.status.TheConstants.{OK, BUFFER_TOO_SMALL}
+use Rattle.ndef_c.specs.declared.building.NdefMessageBuilder.{NdefMessageBuilder}
 use Rattle.ndef_c.specs.declared.writing.NdefWriting.{NdefWriting}
 
--- a room, and what is known of the message with which it begins
+-- a buffer, and the state of the message with which it begins
 pub record Holding : Type 0 where
-  pub room : List ℕ
-  pub built : NdefBuilt
+  pub buffer : List ℕ
+  pub builder : NdefMessageBuilder
 
-abbrev pub held : List ℕ → NdefBuilt → Holding
-held room built = record { room = room; built = built }
+abbrev pub held : List ℕ → NdefMessageBuilder → Holding
+held buffer builder = record { buffer = buffer; builder = builder }
 
 -- no record is there yet
-pub record IsUnbuilt (built : NdefBuilt) : Type 0 where
-  pub length_is : built.length ≡ 0
-  pub last_at : built.last_at ≡ 0
-  pub records : built.records ≡ 0
+pub record IsUnbuilt (builder : NdefMessageBuilder) : Type 0 where
+  pub length_is : builder.length ≡ 0
+  pub last_at : builder.last_at ≡ 0
+  pub records : builder.records ≡ 0
 
 -- NDEF 1.0, ME: the bytes end with a piece that ends a message, and it begins at the place
 pub record EndsWithPiece (bytes : List ℕ) (at : ℕ) : Type 0 where
@@ -30,15 +30,15 @@ pub record EndsWithPiece (bytes : List ℕ) (at : ℕ) : Type 0 where
   pub last : piece.last ≡ true
   pub whole : piece.chunked ≡ false
 
--- the message lies in the room, and one more record can be counted
+-- the message lies in the buffer, and one more record can be counted
 pub record IsBuilt (h : Holding) : Type 0 where
-  pub within : h.built.length ≤ length h.room
-  pub ends : EndsWithPiece (take h.built.length h.room) h.built.last_at
-  pub few : h.built.records < 4294967295
+  pub within : h.builder.length ≤ length h.buffer
+  pub ends : EndsWithPiece (take h.builder.length h.buffer) h.builder.last_at
+  pub few : h.builder.records < 4294967295
 
 -- a record can be appended
 abbrev pub MayBeGrown : Holding → Type 0
-MayBeGrown h = IsUnbuilt h.built ⊎ IsBuilt h
+MayBeGrown h = IsUnbuilt h.builder ⊎ IsBuilt h
 
 -- no flag but that of the long form is set, and it is a record
 pub record MayBeAppended (how : NdefWriting) (m : Item) : Type 0 where
@@ -48,8 +48,8 @@ pub record MayBeAppended (how : NdefWriting) (m : Item) : Type 0 where
 -- NDEF 1.0, ME: the message that is there, the bit that ends it taken from its last piece
 abbrev pub reopened : Holding → List ℕ
 reopened h =
-    let bytes = take h.built.length h.room in
-    slice_set bytes h.built.last_at (slice_index bytes h.built.last_at - 64)
+    let bytes = take h.builder.length h.buffer in
+    slice_set bytes h.builder.last_at (slice_index bytes h.builder.last_at - 64)
 
 -- NDEF 1.0, MB and ME: the octets of a record that is the last of its message, and its first where
 -- none was there
@@ -61,34 +61,34 @@ abbrev pub AppendedBegins : (first : Bool) → NdefWriting → Item → ℕ → 
 AppendedBegins first how m at = LastBegins (form_of how) first true (size_of how) m at
 
 -- no record was there
-abbrev pub is_first_of : NdefBuilt → Bool
-is_first_of built = built.length == 0
+abbrev pub is_first_of : NdefMessageBuilder → Bool
+is_first_of builder = builder.length == 0
 
 -- these octets and one record are more, and the last piece begins there
-pub record IsGrown (octets : List ℕ) (begins : ℕ → Type 0) (before after : NdefBuilt) : Type 0 where
+pub record IsGrown (octets : List ℕ) (begins : ℕ → Type 0) (before after : NdefMessageBuilder) : Type 0 where
   pub length_is : after.length ≡ before.length + length octets
   pub records : after.records ≡ before.records + 1
   pub at : ℕ
   pub begins_at : begins at
   pub last_at : after.last_at ≡ before.length + at
 
--- the octets are written after the message where there is room, else nothing changes; the length of
+-- the octets are written after the message if the buffer is large enough, else nothing changes; the length of
 -- both is given
 pub record GivesAppended (octets : List ℕ) (begins : ℕ
     → Type 0) (before after : Holding) (count status : ℕ)
     : Type 0 where
-  pub count_is : count ≡ before.built.length + length octets
-  pub fits : count ≤ length before.room → (status ≡ OK)
-      × (after.room ≡ reopened before ++ (octets ++ drop count before.room))
-      × IsGrown octets begins before.built after.built
-  pub too_small : length before.room < count → (status ≡ NO_ROOM) × (after ≡ before)
+  pub count_is : count ≡ before.builder.length + length octets
+  pub fits : count ≤ length before.buffer → (status ≡ OK)
+      × (after.buffer ≡ reopened before ++ (octets ++ drop count before.buffer))
+      × IsGrown octets begins before.builder after.builder
+  pub too_small : length before.buffer < count → (status ≡ BUFFER_TOO_SMALL) × (after ≡ before)
 
--- a well-known record is asked for in one piece, in the short form where that can hold its length
+-- a well-known record is requested in one piece, in the short form if that can hold its length
 abbrev pub whole : NdefWriting
 whole = record { tnf = 1; flags = 0; chunk = 0 }
 
 -- the record is written so after the message
 abbrev pub GivesWhole : Item → (before after : Holding) (count status : ℕ) → Type 0
 GivesWhole m before after count status =
-    GivesAppended (appended_octets (is_first_of before.built) whole m)
-    (AppendedBegins (is_first_of before.built) whole m) before after count status
+    GivesAppended (appended_octets (is_first_of before.builder) whole m)
+    (AppendedBegins (is_first_of before.builder) whole m) before after count status

@@ -1,4 +1,4 @@
--- What is said of the payload of a handover carrier, and which carriers may be written.
+-- The result for the payload of a handover carrier, and the carriers that may be written.
 use Rattle.std.specs.Prelude.{◌≡◌, ℕ, ◌^◌, ◌+◌, ◌<◌, List, length}
 use Rattle.ndef_format.specs.Handovers.{IsCarrier}
 use Rattle.ndef_types.specs.Values.{CarrierValue, StandsForCarrier}
@@ -19,7 +19,7 @@ pub record IsCarrierAt (payload : List ℕ) (out : NdefCarrier) : Type 0 where
   pub carried_place : out.data_at ≡ out.type_at + out.type_length
 
 -- Connection Handover 1.2, Handover Carrier record: a format of three bits and a type of up to 255
--- octets that leave room in a payload
+-- octets that fit in a payload
 pub record MayBeCarrier (format : ℕ) (kind carried : List ℕ) : Type 0 where
   pub three_bits : format < 8
   pub short : length kind < 256

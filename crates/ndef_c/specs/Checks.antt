@@ -1,4 +1,4 @@
--- What a check of some bytes answers.
+-- The answer of a check of some bytes.
 use Rattle.std.specs.Prelude.{◌≡◌, ℕ, ◌<◌, ◌≤◌, ◌%◌, ◌==◌, Ok, length, ◌⊎◌, if◌then◌else◌, List}
 use Rattle.ndef_format.specs.Limits.{LimitValues, AreInRange}
 use Rattle.ndef_format.specs.Reasons.{reason_number, Conditions}
@@ -12,7 +12,7 @@ use Rattle.ndef_c.specs.declared.status.TheConstants.{OK, REFUSED}
 use Rattle.ndef_c.specs.declared.limits.NdefLimits.{NdefLimits}
 use Rattle.ndef_c.specs.declared.checking.NdefChecked.{NdefChecked}
 
--- 1 asks for the profile Standard
+-- 1 selects the profile Standard
 abbrev pub profile_of : ℕ → Profile
 profile_of flags = if flags % 2 == 1 then Standard else Strict
 
@@ -21,7 +21,7 @@ abbrev pub limits_of : NdefLimits → LimitValues
 limits_of n = record {
   payload = n.payload;
   records = n.records;
-  pieces = n.pieces;
+  pieces = n.chunks;
   profile = profile_of n.flags;
 }
 
@@ -55,7 +55,7 @@ pub record RefusesAt (set : Sets) (holds : Conditions) (limits : LimitValues) (b
   pub records : out.records ≡ 0
   pub reason : out.reason ≡ reason_number refusal.reason
 
--- one or the other, as the status says
+-- one or the other, by the status
 abbrev pub ChecksTo : Sets → Conditions → LimitValues → List ℕ → (status : ℕ) → NdefChecked → Type 0
 ChecksTo set holds limits bytes status out =
     ((status ≡ OK) × TakesMessage set holds limits bytes out)

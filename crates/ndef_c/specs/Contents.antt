@@ -1,4 +1,4 @@
--- What is written as the payload of a record, in the place where it belongs.
+-- The content of a record's payload, which is written directly to its place in the buffer.
 use Rattle.std.specs.Prelude.{ℕ, ◌+◌, ◌≤◌, false, List, [], ◌∷◌, ◌++◌, length, chars, ⊤}
 use Rattle.std.specs.List.{flat_map}
 use Rattle.ndef_format.specs.Texts.{spelled, units_of}

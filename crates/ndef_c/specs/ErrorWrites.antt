@@ -1,4 +1,4 @@
--- Which handover errors may be written, and what is written of them.
+-- The handover errors that may be written, and their octets.
 use Rattle.std.specs.Prelude.{◌≡◌, ℕ, ◌<◌, ◌+◌, ◌^◌, ◌⊎◌, List, length}
 use Rattle.ndef_types.specs.Values.{ErrorValue, IsErrorValue, WritesError}
 use Rattle.ndef_c.specs.Errors.{detail_number}
@@ -9,7 +9,7 @@ abbrev pub error_of : (reason : ℕ) → List ℕ → ErrorValue
 error_of reason detail = record { reason = reason; detail = detail }
 
 -- Connection Handover 1.2, Error record: a reason of one octet and the data that go with it, which
--- leave room in a payload
+-- fit in a payload
 pub record MayBeError (reason : ℕ) (detail : List ℕ) : Type 0 where
   pub error : IsErrorValue (error_of reason detail)
   pub fits : 1 + length detail < 2 ^ 32
@@ -24,7 +24,7 @@ pub record IsErrorOf (reason number : ℕ) (v : ErrorValue) : Type 0 where
   pub reason_is : v.reason ≡ reason
   pub number_is : detail_number reason v.detail ≡ number
 
--- what is written for that error is given
+-- the octets that are written for that error are given
 pub record GivesError (reason number : ℕ) (before after : List ℕ) (count status : ℕ) : Type 0 where
   pub error : ErrorValue
   pub is : IsErrorOf reason number error

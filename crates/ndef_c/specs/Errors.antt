@@ -1,4 +1,4 @@
--- What is said of the payload of a handover error.
+-- The result for the payload of a handover error.
 use Rattle.std.specs.Prelude.{◌≡◌, ℕ, ◌^◌, ◌<◌, ◌==◌, ◌&&◌, nat_le, List, length, slice_index, Option, Some, None, if◌then◌else◌}
 use Rattle.std.specs.Int.{w32, from_be_bytes}
 use Rattle.ndef_format.specs.Handovers.{IsError}
@@ -14,8 +14,8 @@ detail_number reason detail = if reason == 2 then from_be_bytes w32 detail else 
 
 -- Connection Handover 1.2, Error record: the number that the data of a defined reason give; 1 to 3
 -- are defined
-abbrev pub number_told : (reason : ℕ) → List ℕ → Option ℕ
-number_told reason detail =
+abbrev pub number_reported : (reason : ℕ) → List ℕ → Option ℕ
+number_reported reason detail =
     if nat_le 1 reason && nat_le reason 3 then Some (detail_number reason detail) else None
 
 -- Connection Handover 1.2, Error record: the payload is that of an error: its reason, where its
@@ -28,4 +28,4 @@ pub record IsErrorAt (payload : List ℕ) (out : NdefError) : Type 0 where
   pub reason : out.reason ≡ error.reason
   pub detail : Lies payload out.data_at out.data_length error.detail
   pub place : out.data_at ≡ 1
-  pub number : TellsNumber (number_told error.reason error.detail) out.has_number out.number
+  pub number : TellsNumber (number_reported error.reason error.detail) out.has_number out.number

@@ -1,4 +1,4 @@
--- What is answered of a message whose bytes come in parts.
+-- The answer to a message whose bytes come in parts.
 use Rattle.std.specs.Prelude.{◌≡◌, ◌≢◌, ℕ, ◌==◌, ◌⊎◌, ◌↔◌, if◌then◌else◌, List, length}
 use Rattle.ndef_format.specs.Records.{AreOctets}
 use Rattle.ndef_format.specs.Limits.{LimitValues}
@@ -19,8 +19,8 @@ pub record FedSoFar : Type 0 where
   pub limits : NdefLimits
   pub bytes : List ℕ
 
--- a checker with these limits was fed these bytes, where the limits are any; 2 asks for a look into
--- no payload
+-- a checker with these limits was fed these bytes, for any limits; 2 selects that no payload is
+-- validated
 abbrev pub HasLooked : Looking → NdefLimits → List ℕ → Type 0
 HasLooked looking.Nothing limits bytes = ¬ MayBeSet limits
 HasLooked (looking.Typed c) limits bytes =
@@ -32,31 +32,31 @@ HasLooked (looking.Opaque c) limits bytes =
 abbrev pub IsFed : NdefChecker → FedSoFar → Type 0
 IsFed checker so_far = HasLooked checker.looking so_far.limits so_far.bytes
 
--- what a checker answers that is begun by these limits
+-- the answer of a checker that is begun by these limits
 abbrev pub BeginsTo : NdefLimits → (status : ℕ) → Type 0
 BeginsTo limits status =
     (MayBeSet limits × (status ≡ OK)) ⊎ ((¬ MayBeSet limits) × (status ≡ BAD_ARGUMENT))
 
--- what a check answers where a checker answers so: it doesn't separate bytes that end too early
+-- the answer of a check for this answer of a checker: it doesn't separate bytes that end too early
 -- from others
 abbrev pub checked_status : ℕ → ℕ
 checked_status status = if status == MORE then REFUSED else status
 
--- NDEF 1.0, messages: what is answered of all the bytes so far is what a check of them answers, and
+-- NDEF 1.0, messages: the answer to all the bytes so far is the answer of a check of them, and
 -- that more are needed where they are refused only because they end.
 pub record FeedsTo (set : Sets) (holds : Conditions) (limits : LimitValues) (bytes : List ℕ) (status : ℕ)
     (out : NdefChecked) : Type 0 where
   pub checks : ChecksTo set holds limits bytes (checked_status status) out
   pub more : (status ≡ MORE) ↔ ((status ≢ OK) × (out.place ≡ length bytes))
 
--- where no payload is looked into, each is one of its type, and none is refused for its octets
+-- if no payload is validated, each is one of its type, and none is refused for its octets
 abbrev pub AnyPayload : Sets
 AnyPayload tnf name records profile s = AreOctets s
 
 abbrev pub NoCondition : Conditions
 NoCondition tnf name records profile s b = NoReason
 
--- what is answered of all the bytes so far, where 2 asks for a look into no payload
+-- the answer to all the bytes so far, where 2 selects that no payload is validated
 pub record AnswersFed (limits : NdefLimits) (bytes : List ℕ) (status : ℕ) (before after : NdefChecked) : Type 0 where
   pub bad : (status ≡ BAD_ARGUMENT) ↔ (¬ MayBeSet limits)
   pub kept : status ≡ BAD_ARGUMENT → after ≡ before

@@ -1,4 +1,4 @@
--- In which field each byte of a message stands, as numbers.
+-- The field of each byte of a message, as numbers.
 use Rattle.std.specs.Prelude.{◌≡◌, ℕ, ◌+◌, ◌<◌, ◌≤◌, List, ◌∷◌, ◌++◌, length, map, take}
 use Rattle.ndef_format.specs.Kinds.{kind_of}
 use Rattle.ndef_format.specs.Limits.{LimitValues}
@@ -7,17 +7,17 @@ use Rattle.ndef_format.specs.Payloads.{IsTypedPayload}
 use Rattle.ndef_format.specs.Records.{tnf_of}
 use Rattle.ndef_fields.specs.FieldLaws.{AreGapless}
 use Rattle.ndef_fields.specs.Names.{name_text}
-use Rattle.ndef_fields.specs.Tellings.{AreFields, AreFieldsBefore, ArePayloadFields}
+use Rattle.ndef_fields.specs.Reports.{AreFields, AreFieldsBefore, ArePayloadFields}
 use Rattle.ndef_fields.specs.declared.field.Field.{Field}
 use Rattle.ndef_fields.specs.declared.name.FieldName.{FieldName}
 use Rattle.ndef_fields.specs.declared.name.FieldName.TheVariants as names
 use Rattle.ndef_c.specs.Arrays.{set_over}
 use Rattle.ndef_c.specs.Checks.{ChecksPayloads, ChecksTo, MayBeSet}
-use Rattle.ndef_c.specs.Rooms.{Gives}
+use Rattle.ndef_c.specs.Buffers.{Gives}
 use Rattle.ndef_c.specs.declared.checking.NdefChecked.{NdefChecked}
 use Rattle.ndef_c.specs.declared.fields.NdefField.{NdefField}
 use Rattle.ndef_c.specs.declared.limits.NdefLimits.{NdefLimits}
-use Rattle.ndef_c.specs.declared.status.TheConstants.{OK, REFUSED, NO_ROOM, END}
+use Rattle.ndef_c.specs.declared.status.TheConstants.{OK, REFUSED, BUFFER_TOO_SMALL, END}
 
 -- ---- names
 
@@ -63,7 +63,7 @@ pub record GivesFieldName (number : ℕ) (before after : List ℕ) (count status
 
 -- ---- fields
 
--- the limits may be set, and payloads are looked into
+-- the limits may be set, and payloads are validated
 abbrev pub MayTellFields : NdefLimits → Type 0
 MayTellFields n = MayBeSet n × ChecksPayloads n
 
@@ -71,72 +71,72 @@ MayTellFields n = MayBeSet n × ChecksPayloads n
 abbrev pub numbers_of : Field → NdefField
 numbers_of f = record { at = f.at; length = f.length; depth = f.depth; name = field_number f.name }
 
--- NDEF 1.0, messages: what a check answers of the bytes, and the fields of the message with which
+-- NDEF 1.0, messages: the answer of a check of the bytes, and the fields of the message with which
 -- they begin, or those before the refused byte
-pub record AreFieldsChecked (limits : LimitValues) (bytes : List ℕ) (checked : ℕ) (why : NdefChecked)
-    (told : List Field) : Type 0 where
-  pub checks : ChecksTo IsTypedPayload TypedReason limits bytes checked why
-  pub whole : checked ≡ OK → (a : AreFields limits bytes told) × (a.count ≡ why.place)
-  pub before : checked ≡ REFUSED → AreFieldsBefore (take why.place bytes) told
+pub record AreFieldsChecked (limits : LimitValues) (bytes : List ℕ) (checked : ℕ) (refusal : NdefChecked)
+    (reported : List Field) : Type 0 where
+  pub checks : ChecksTo IsTypedPayload TypedReason limits bytes checked refusal
+  pub whole : checked ≡ OK → (a : AreFields limits bytes reported) × (a.count ≡ refusal.place)
+  pub before : checked ≡ REFUSED → AreFieldsBefore (take refusal.place bytes) reported
 
--- the fields are written where the array has room, and the answer is that of the check; else the
+-- the fields are written if the array is large enough, and the answer is that of the check; else the
 -- array is unchanged; their number is given
-pub record GivesEach (told : List Field) (checked : ℕ) (before after : List NdefField) (count status : ℕ)
+pub record GivesEach (reported : List Field) (checked : ℕ) (before after : List NdefField) (count status : ℕ)
     : Type 0 where
-  pub count_is : count ≡ length told
-  pub fits : length told ≤ length before → (status ≡ checked)
-      × (after ≡ set_over (map numbers_of told) before)
-  pub too_small : length before < length told → (status ≡ NO_ROOM) × (after ≡ before)
+  pub count_is : count ≡ length reported
+  pub fits : length reported ≤ length before → (status ≡ checked)
+      × (after ≡ set_over (map numbers_of reported) before)
+  pub too_small : length before < length reported → (status ≡ BUFFER_TOO_SMALL) × (after ≡ before)
 
 -- NDEF 1.0, messages: the fields of the message are given, or those before the refused byte
 pub record GivesFields (limits : LimitValues) (bytes : List ℕ) (before after : List NdefField) (count status : ℕ)
-    (why : NdefChecked) : Type 0 where
+    (refusal : NdefChecked) : Type 0 where
   pub checked : ℕ
-  pub told : List Field
-  pub are : AreFieldsChecked limits bytes checked why told
-  pub gives : GivesEach told checked before after count status
+  pub reported : List Field
+  pub are : AreFieldsChecked limits bytes checked refusal reported
+  pub gives : GivesEach reported checked before after count status
 
 -- NDEF 1.0, TYPE and chunked payloads: the fields of the joined payload of a record with this type
 -- are given
 pub record GivesPayloadFields (tnf : ℕ) (kind payload : List ℕ) (before after : List NdefField) (count status : ℕ)
     : Type 0 where
-  pub told : List Field
-  pub are : ArePayloadFields (kind_of (tnf_of tnf) kind) payload told
-  pub gives : GivesEach told OK before after count status
+  pub reported : List Field
+  pub are : ArePayloadFields (kind_of (tnf_of tnf) kind) payload reported
+  pub gives : GivesEach reported OK before after count status
 
 -- ---- the field of a byte
 
--- it is one of the fields, and the byte at the place stands in it
-pub record IsFieldWith (told : List Field) (place : ℕ) (f : Field) : Type 0 where
+-- it is one of the fields, and the byte at the place is in it
+pub record IsFieldWith (reported : List Field) (place : ℕ) (f : Field) : Type 0 where
   pub before : List Field
-  pub behind : List Field
-  pub split : told ≡ before ++ f ∷ behind
+  pub following : List Field
+  pub split : reported ≡ before ++ f ∷ following
   pub from : f.at ≤ place
   pub to : place < f.at + f.length
 
 -- the field with the byte is given
-abbrev pub GivesWith : (told : List Field) (place : ℕ) (after : NdefField) → Type 0
-GivesWith told place after = (f : Field) × IsFieldWith told place f × (after ≡ numbers_of f)
+abbrev pub GivesWith : (reported : List Field) (place : ℕ) (after : NdefField) → Type 0
+GivesWith reported place after = (f : Field) × IsFieldWith reported place f × (after ≡ numbers_of f)
 
--- NDEF 1.0, messages: the field in which the byte at the place stands is given, of the message or
+-- NDEF 1.0, messages: the field of the byte at the place is given, of the message or
 -- before the refused byte; none where the place is after
 pub record GivesFieldAt (limits : LimitValues) (bytes : List ℕ) (place : ℕ) (before after : NdefField) (status : ℕ)
-    (why : NdefChecked) : Type 0 where
+    (refusal : NdefChecked) : Type 0 where
   pub checked : ℕ
-  pub told : List Field
-  pub are : AreFieldsChecked limits bytes checked why told
-  pub within : place < why.place → (status ≡ OK) × GivesWith told place after
-  pub ended : why.place ≤ place → checked ≡ OK → (status ≡ END) × (after ≡ before)
-  pub refused : why.place ≤ place → checked ≡ REFUSED → (status ≡ REFUSED) × (after ≡ before)
+  pub reported : List Field
+  pub are : AreFieldsChecked limits bytes checked refusal reported
+  pub within : place < refusal.place → (status ≡ OK) × GivesWith reported place after
+  pub ended : refusal.place ≤ place → checked ≡ OK → (status ≡ END) × (after ≡ before)
+  pub refused : refusal.place ≤ place → checked ≡ REFUSED → (status ≡ REFUSED) × (after ≡ before)
 
 -- ---- law
 
--- The byte at a place stands in one field.
+-- A byte at a place is in exactly one field.
 abbrev pub OneFieldWith : Type 0
-OneFieldWith = (told : List Field) (end place : ℕ) (f g : Field) → AreGapless 0 told end
-    → IsFieldWith told place f → IsFieldWith told place g → f ≡ g
+OneFieldWith = (reported : List Field) (end place : ℕ) (f g : Field) → AreGapless 0 reported end
+    → IsFieldWith reported place f → IsFieldWith reported place g → f ≡ g
 
--- The byte after a field stands in the next one.
+-- The byte after a field is in the next one.
 abbrev pub StepsLeadOn : Type 0
-StepsLeadOn = (told before behind : List Field) (end : ℕ) (f g : Field) → AreGapless 0 told end
-    → told ≡ before ++ f ∷ g ∷ behind → IsFieldWith told (f.at + f.length) g
+StepsLeadOn = (reported before following : List Field) (end : ℕ) (f g : Field) → AreGapless 0 reported end
+    → reported ≡ before ++ f ∷ g ∷ following → IsFieldWith reported (f.at + f.length) g

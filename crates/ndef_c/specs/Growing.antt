@@ -1,4 +1,4 @@
--- What a room holds of the records that are appended to it.
+-- The records in a buffer after they have been appended to it.
 use Rattle.std.specs.Prelude.{◌≡◌, ℕ, ◌+◌, ◌≤◌, Bool, true, false, List, [], ◌∷◌, ◌++◌, length, map, take}
 use Rattle.std.specs.List.{AllByRecursion}
 use Rattle.ndef_format.specs.Canonical.{IsItem}
@@ -25,28 +25,28 @@ followed_octets first [] = []
 followed_octets first (a ∷ others) =
     record_octets (form_of a.how) first false (size_of a.how) a.item ++ followed_octets false others
 
--- NDEF 1.0, messages: the room begins with these records and a last one, each written as it was
--- asked, and the holding says so
+-- NDEF 1.0, messages: the buffer begins with these records and a last one, each written as it was
+-- requested, and the holding agrees with them
 pub record HoldsRecords (records : List Appended) (last : Appended) (h : Holding) : Type 0 where
-  pub within : h.built.length ≤ length h.room
-  pub bytes : take h.built.length h.room
+  pub within : h.builder.length ≤ length h.buffer
+  pub bytes : take h.builder.length h.buffer
       ≡ followed_octets true records ++ appended_octets (opens true records) last.how last.item
   pub at : ℕ
   pub begins : AppendedBegins (opens true records) last.how last.item at
-  pub last_at : h.built.last_at ≡ length (followed_octets true records) + at
-  pub count : h.built.records ≡ length records + 1
+  pub last_at : h.builder.last_at ≡ length (followed_octets true records) + at
+  pub count : h.builder.records ≡ length records + 1
 
 -- the record was appended
 abbrev pub IsAppended : Appended → (before after : Holding) → ℕ → Type 0
 IsAppended a before after count =
-    GivesAppended (appended_octets (is_first_of before.built) a.how a.item)
-    (AppendedBegins (is_first_of before.built) a.how a.item) before after count OK
+    GivesAppended (appended_octets (is_first_of before.builder) a.how a.item)
+    (AppendedBegins (is_first_of before.builder) a.how a.item) before after count OK
 
 -- ---- laws
 
 -- The first record that is appended is the message.
 abbrev pub FirstIsHeld : Type 0
-FirstIsHeld = (a : Appended) (before after : Holding) (count : ℕ) → IsUnbuilt before.built
+FirstIsHeld = (a : Appended) (before after : Holding) (count : ℕ) → IsUnbuilt before.builder
     → IsAppended a before after count → HoldsRecords [] a after
 
 -- Each further one is its last record, after those that were there.
@@ -55,9 +55,9 @@ OthersAreHeld = (records : List Appended) (last a : Appended) (before after : Ho
     → HoldsRecords records last before → IsAppended a before after count
     → HoldsRecords (records ++ last ∷ []) a after
 
--- NDEF 1.0, messages: The records that a room holds, each in the form and the pieces that were
--- asked, are a message.
+-- NDEF 1.0, messages: The records that a buffer holds, each in the form and the pieces that were
+-- requested, are a message.
 abbrev pub HeldAreAMessage : Type 0
 HeldAreAMessage = (profile : Profile) (records : List Appended) (last : Appended) (h : Holding)
     → HoldsRecords records last h → AllByRecursion (λ a. IsItem a.item) (records ++ last ∷ [])
-    → Spells profile (map (λ a. a.item) (records ++ last ∷ [])) (take h.built.length h.room)
+    → Spells profile (map (λ a. a.item) (records ++ last ∷ [])) (take h.builder.length h.buffer)

@@ -1,4 +1,4 @@
--- Which handover requests and selects may be written from their parts, and what is written of them.
+-- The handover requests and selects that may be written from their parts, and their octets.
 use Rattle.std.specs.Prelude.{◌≡◌, ℕ, ◌+◌, ◌<◌, ◌≤◌, ◌^◌, ◌==◌, ◌⊎◌, List, [], ◌∷◌, ◌++◌, length, map, Option, Some, None, if◌then◌else◌}
 use Rattle.std.specs.Int.{w16, to_be_bytes}
 use Rattle.std.specs.List.{All}
@@ -56,7 +56,7 @@ pub record MayBeRequest (minor collision : ℕ) (c : CarriersAsked) : Type 0 whe
 abbrev pub request_of : (minor collision : ℕ) → CarriersAsked → RequestValue
 request_of minor collision c = record { minor = minor; items = request_items collision c }
 
--- what is written for that request is given
+-- the octets that are written for that request are given
 pub record GivesRequest (minor collision : ℕ) (c : CarriersAsked) (before after : List ℕ) (count status : ℕ)
     : Type 0 where
   pub may : MayBeRequest minor collision c
@@ -76,11 +76,11 @@ pub record IsErrorSaid (how : NdefSelectWriting) (bytes : List ℕ) : Type 0 whe
   pub within : IsPartWithin (length bytes) how.detail
   pub may : MayBeError how.reason (part_of bytes how.detail)
 
--- Connection Handover 1.2, Error record: 1 asks for one, and 0 for none
+-- Connection Handover 1.2, Error record: 1 requests one, and 0 none
 abbrev pub MayBeErrorSaid : NdefSelectWriting → List ℕ → Type 0
 MayBeErrorSaid how bytes = (how.has_error ≡ 0) ⊎ ((how.has_error ≡ 1) × IsErrorSaid how bytes)
 
--- Connection Handover 1.2, Error record: the record of the reason and its data, where 1 asks for it
+-- Connection Handover 1.2, Error record: the record of the reason and its data, if 1 requests it
 abbrev pub error_items : NdefSelectWriting → List ℕ → List Item
 error_items how bytes =
     if how.has_error == 1 then well_known kinds.Error [] (how.reason ∷ part_of bytes how.detail) ∷ [] else []
@@ -115,7 +115,7 @@ message_of (i ∷ items) = Some (i ∷ items)
 abbrev pub select_of : SelectAsked → SelectValue
 select_of s = record { minor = s.how.minor; message = message_of (select_items s) }
 
--- what is written for that select is given
+-- the octets that are written for that select are given
 pub record GivesSelect (s : SelectAsked) (before after : List ℕ) (count status : ℕ) : Type 0 where
   pub may : MayBeSelect s
   pub gives : GivesFor WritesSelect (select_of s) before after count status

@@ -1,4 +1,4 @@
--- What is said of the payloads of handovers.
+-- The results for the payloads of handovers.
 use Rattle.std.specs.Prelude.{◌≡◌, ℕ, ◌+◌, ◌*◌, ◌^◌, ◌<◌, ◌⊎◌, List, drop, length, slice_index, Option, Some, None}
 use Rattle.ndef_format.specs.Messages.{Item}
 use Rattle.ndef_format.specs.declared.profile.Profile.{Profile}
@@ -12,7 +12,7 @@ use Rattle.ndef_types.specs.Contents.{IsFirstOf, IsOfKind, Lack}
 use Rattle.ndef_types.specs.Handovers.{IsCollisionOf}
 use Rattle.ndef_types.specs.Links.{alternatives}
 use Rattle.ndef_types.specs.Values.{ErrorValue, StandsForError}
-use Rattle.ndef_c.specs.Nested.{MayBeInPieces, StandsBehind}
+use Rattle.ndef_c.specs.Nested.{MayBeInPieces, LiesAfter}
 use Rattle.ndef_c.specs.Walks.{Lies}
 use Rattle.ndef_c.specs.declared.request.NdefRequest.{NdefRequest}
 use Rattle.ndef_c.specs.declared.select.NdefSelect.{NdefSelect}
@@ -58,7 +58,7 @@ TellsError payload None has reason at count = (has ≡ 0) × (reason ≡ 0) × (
 TellsError payload (Some i) has reason at count =
     (has ≡ 1) × (v : ErrorValue) × StandsForError i.payload v × (reason ≡ v.reason)
     × Lies payload at count v.detail
-    × (place : ℕ) × StandsBehind (Lack (IsOfKind Select kinds.Error)) (drop 1 payload) i place
+    × (place : ℕ) × LiesAfter (Lack (IsOfKind Select kinds.Error)) (drop 1 payload) i place
     × (at ≡ place + 2)
 
 -- Connection Handover 1.2, Handover Select record: the payload is that of a select: its version,

@@ -1,19 +1,19 @@
--- What may help where bytes are refused, in sentences and by numbers.
+-- Hints for bytes that are refused, in sentences and by numbers.
 use Rattle.std.specs.Prelude.{◌≡◌, ℕ, ◌⊎◌, List}
 use Rattle.ndef_format.specs.Limits.{LimitValues}
 use Rattle.ndef_format.specs.NestedReasons.{TypedReason}
 use Rattle.ndef_format.specs.Payloads.{IsTypedPayload}
 use Rattle.ndef_format.specs.Refusals.{Refuses}
 use Rattle.ndef_format.specs.declared.refusal.Refusal.{Refusal}
-use Rattle.ndef_advice.specs.Hints.{Applies, BeginsWithMessage, hint_length, hint_place, hint_text}
-use Rattle.ndef_advice.specs.declared.dump_text.DumpText.{DumpText}
-use Rattle.ndef_advice.specs.declared.dump_text.DumpText.TheVariants as texts
-use Rattle.ndef_advice.specs.declared.hint.Hint.{Hint}
-use Rattle.ndef_advice.specs.declared.hint.Hint.TheVariants as hints
-use Rattle.ndef_advice.specs.declared.tag_memory.Wrapping.{Wrapping}
-use Rattle.ndef_advice.specs.declared.tag_memory.Wrapping.TheVariants as wrappings
-use Rattle.ndef_c.specs.Rooms.{Gives}
-use Rattle.ndef_c.specs.Whys.{GivesNone}
+use Rattle.ndef_diagnostics.specs.Hints.{Applies, BeginsWithMessage, hint_length, hint_place, hint_text}
+use Rattle.ndef_diagnostics.specs.declared.dump_text.DumpText.{DumpText}
+use Rattle.ndef_diagnostics.specs.declared.dump_text.DumpText.TheVariants as texts
+use Rattle.ndef_diagnostics.specs.declared.hint.Hint.{Hint}
+use Rattle.ndef_diagnostics.specs.declared.hint.Hint.TheVariants as hints
+use Rattle.ndef_diagnostics.specs.declared.tag_memory.Wrapping.{Wrapping}
+use Rattle.ndef_diagnostics.specs.declared.tag_memory.Wrapping.TheVariants as wrappings
+use Rattle.ndef_c.specs.Buffers.{Gives}
+use Rattle.ndef_c.specs.RefusalMessages.{GivesNone}
 use Rattle.ndef_c.specs.declared.hints.NdefFound.{NdefFound}
 use Rattle.ndef_c.specs.declared.hints.TheConstants.{HINT_ATTRIBUTES, HINT_BASE64, HINT_CODE, HINT_DIGITS, HINT_FILE}
 use Rattle.ndef_c.specs.declared.hints.TheConstants.{HINT_FLIPPER, HINT_HEXDUMP, HINT_MESSAGE, HINT_PROXMARK}

@@ -1,11 +1,11 @@
--- What is said of the icons of a smart poster.
+-- The results for the icons of a smart poster.
 use Rattle.std.specs.Prelude.{◌≡◌, ℕ, ◌+◌, Bool, true, false, List, length, filter, slice_get, Some}
 use Rattle.ndef_format.specs.Messages.{Item}
 use Rattle.ndef_format.specs.declared.profile.Profile.TheVariants.{Standard}
 use Rattle.ndef_format.specs.declared.tnf.Tnf.{Tnf}
 use Rattle.ndef_format.specs.declared.tnf.Tnf.TheVariants.{Media}
 use Rattle.ndef_c.specs.Arrays.{EachAt, GivesMany}
-use Rattle.ndef_c.specs.Nested.{StandsBehind}
+use Rattle.ndef_c.specs.Nested.{LiesAfter}
 use Rattle.ndef_c.specs.Posters.{HasPosterRecords}
 use Rattle.ndef_c.specs.Titles.{IsPosterPayload}
 use Rattle.ndef_c.specs.Walks.{Lies}
@@ -31,7 +31,7 @@ pub record IsIconAt (payload : List ℕ) (items : List Item) (index : ℕ) (out 
   pub is : slice_get (icons items) index ≡ Some icon
   pub media_type : Lies payload out.media_type.at out.media_type.length icon.kind
   pub image : Lies payload out.octets.at out.octets.length icon.payload
-  pub place : StandsBehind (λ before. length (icons before) ≡ index) payload icon out.octets.at
+  pub place : LiesAfter (λ before. length (icons before) ≡ index) payload icon out.octets.at
   pub type_place : out.media_type.at + (out.media_type.length + length icon.id) ≡ out.octets.at
 
 -- RTD Smart Poster 1.0, icon records: where each icon of a poster lies is given, in their order

@@ -23,7 +23,7 @@ use Rattle.ndef_c.specs.declared.limits.NdefLimits.{NdefLimits}
 use Rattle.ndef_c.specs.declared.record.NdefRecord.{NdefRecord}
 use Rattle.ndef_c.specs.declared.status.TheConstants.{REFUSED}
 use Rattle.ndef_c.specs.declared.text.NdefText.{NdefText}
-use Rattle.ndef_c.specs.declared.uri_view.NdefUri.{NdefUri}
+use Rattle.ndef_c.specs.declared.uri_parts.NdefUri.{NdefUri}
 
 -- ---- values
 
@@ -76,13 +76,13 @@ value_of i = record {
   text_length = i.text_length;
 }
 
--- NDEF 1.0, chunked payloads: the value of a record in one piece whose payload is looked into, else
+-- NDEF 1.0, chunked payloads: the value of a record in one piece whose payload is validated, else
 -- none
-pub record HasValue (looks : Bool) (profile : Profile) (kind at pieces : ℕ) (payload : List ℕ) (v : Value)
+pub record HasValue (looks : Bool) (profile : Profile) (kind at chunks : ℕ) (payload : List ℕ) (v : Value)
     : Type 0 where
-  pub looked : looks ≡ true → pieces ≡ 1 → IsValueOf profile kind at payload v
+  pub looked : looks ≡ true → chunks ≡ 1 → IsValueOf profile kind at payload v
   pub opaque : looks ≡ false → v ≡ no_value
-  pub chunked : pieces ≢ 1 → v ≡ no_value
+  pub chunked : chunks ≢ 1 → v ≡ no_value
 
 -- ---- records
 
@@ -96,7 +96,7 @@ pub record Repeats (r : NdefRecord) (i : NdefItem) : Type 0 where
   pub id_length : i.id_length ≡ r.id_length
   pub payload_at : i.payload_at ≡ r.payload_at
   pub payload_length : i.payload_length ≡ r.payload_length
-  pub pieces : i.pieces ≡ r.pieces
+  pub chunks : i.chunks ≡ r.chunks
 
 -- NDEF 1.0, record layout and chunked payloads: it is this record, which lies at the place, with
 -- its kind and its value
@@ -107,7 +107,7 @@ pub record IsItemAt (looks : Bool) (profile : Profile) (bytes : List ℕ) (at : 
   pub run_is : there.run ≡ run
   pub repeats : Repeats place i
   pub kind : i.kind ≡ kind_number (outer_kind (kind_of (run_record run).tnf (run_record run).kind))
-  pub value : HasValue looks profile i.kind i.payload_at i.pieces (run_record run).payload (value_of i)
+  pub value : HasValue looks profile i.kind i.payload_at i.chunks (run_record run).payload (value_of i)
 
 -- NDEF 1.0, messages: they are these records, which lie one after another from a place to another
 abbrev pub AreItems : Bool → Profile → List ℕ → (at : ℕ) → List Run → List NdefItem → (end : ℕ)
@@ -133,7 +133,7 @@ AreTyped set = (limits : LimitValues) (item : Item) → IsMember set limits item
 pub record GivesMessage (looks : Bool) (set : Sets) (holds : Conditions) (limits : LimitValues) (bytes : List ℕ)
     (before after : List NdefItem) (status : ℕ) (out : NdefChecked) : Type 0 where
   pub takes : TakesMessage set holds limits bytes out
-  pub gives : GivesMany (λ told. AreItems looks limits.profile bytes 0 takes.viewed.runs told out.place)
+  pub gives : GivesMany (λ reported. AreItems looks limits.profile bytes 0 takes.viewed.runs reported out.place)
       (length takes.viewed.runs) before after out.records status
 
 -- NDEF 1.0, messages: that, or the bytes are refused, there and for that reason

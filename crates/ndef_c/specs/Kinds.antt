@@ -1,4 +1,4 @@
--- What the payload of a record is, as its type says.
+-- The kind of a record's payload, from its type.
 use Rattle.std.specs.Prelude.{◌==◌, ℕ, ◌≤◌, List, length, if◌then◌else◌}
 use Rattle.ndef_format.specs.Kinds.{kind_of, outer_kind}
 use Rattle.ndef_format.specs.Nested.{checked}

@@ -7,7 +7,7 @@ use Rattle.ndef_format.specs.Records.{AreOctets}
 use Rattle.ndef_format.specs.declared.reason.Reason.{Reason}
 use Rattle.ndef_format.specs.declared.reason.Reason.TheVariants.{DoesNotFit}
 use Rattle.ndef_format.specs.declared.refusal.Refusal.{Refusal}
-use Rattle.ndef_lang.specs.Language.{Behind, Continues, PassesBetween}
+use Rattle.ndef_lang.specs.Language.{After, Continues, PassesBetween}
 use Rattle.ndef_c.specs.declared.layout.Field.{Field}
 use Rattle.ndef_c.specs.declared.layout.Field.TheVariants as fields
 use Rattle.ndef_c.specs.declared.layout.NdefLaidOut.{NdefLaidOut}
@@ -88,7 +88,7 @@ LayoutReason layout s b = TextReason (text_before layout s) b
 
 -- some payload of the layout begins with the octets, and has `left` more
 abbrev pub CanBegin : List Field → List ℕ → (left : ℕ) → Type 0
-CanBegin layout s left = PassesBetween (Behind (IsLaidOut layout) s) left left
+CanBegin layout s left = PassesBetween (After (IsLaidOut layout) s) left left
 
 -- no payload of the layout with the length of this one begins with the octets up to the refused one,
 -- but some begins with those before it; and why

@@ -1,4 +1,4 @@
--- What is said of the links of a message.
+-- The results for the links of a message.
 use Rattle.std.specs.Prelude.{◌≡◌, ◌≢◌, ℕ, ◌+◌, ◌^◌, ◌<◌, ◌≤◌, List, [], length, map, take, drop, slice_get, Option, Some, None, Ok}
 use Rattle.ndef_format.specs.Messages.{Item, run_record}
 use Rattle.ndef_format.specs.Limits.{LimitValues}
@@ -13,7 +13,7 @@ use Rattle.ndef_types.specs.Values.{AcValue, StandsForAc}
 use Rattle.ndef_types.specs.declared.link.Link.{Link}
 use Rattle.ndef_c.specs.Arrays.{EachAt, GivesMany}
 use Rattle.ndef_c.specs.Handovers.{IsHandoverPayload, HasMessage}
-use Rattle.ndef_c.specs.Nested.{StandsBehind, TellsNumber}
+use Rattle.ndef_c.specs.Nested.{LiesAfter, TellsNumber}
 use Rattle.ndef_c.specs.Walks.{BeginsWithRun, AreWalked, LieBetween, Lies}
 use Rattle.ndef_c.specs.declared.link.NdefLink.{NdefLink}
 use Rattle.ndef_c.specs.declared.message.Place.{Place}
@@ -80,8 +80,8 @@ pub record IsLinkAt (bytes payload : List ℕ) (index : ℕ) (out : NdefLink) : 
   pub in_set : IsAlternative carrier.payload
   pub lies : Lies payload out.carrier_at out.carrier_length carrier.payload
   pub at : ℕ
-  pub place : StandsBehind (λ before. length (alternatives before) ≡ index) (drop 1 payload) carrier at
-  pub behind_version : out.carrier_at ≡ at + 1
+  pub place : LiesAfter (λ before. length (alternatives before) ≡ index) (drop 1 payload) carrier at
+  pub after_version : out.carrier_at ≡ at + 1
   pub alternative : AcValue
   pub stands : StandsForAc carrier.payload alternative
   pub refers : TellsRecord bytes runs alternative.reference out
@@ -113,17 +113,17 @@ pub record IsLink (payload : List ℕ) (link : Link) (out : NdefLink) : Type 0 w
   pub index : TellsNumber link.index out.has_record out.record_index
 
 -- the links that are given are these
-pub record AreLinksTold (bytes payload : List ℕ) (links : List Link) : Type 0 where
+pub record AreLinksReported (bytes payload : List ℕ) (links : List Link) : Type 0 where
   pub may : MayHaveLinks bytes payload
   pub each : (index : ℕ) (out : NdefLink) → IsLinkAt bytes payload index out → (link : Link)
       × (slice_get links index ≡ Some link) × IsLink payload link out
   pub end : (index : ℕ) → HasNoLink bytes payload index → length links ≤ index
 
--- Of a message that a check takes and its handover the links that it has are given.
-abbrev pub LinksAreTold : Sets → Conditions → Type 0
-LinksAreTold set holds =
+-- For a message that a check accepts and its handover exactly its links are given.
+abbrev pub LinksAreExact : Sets → Conditions → Type 0
+LinksAreExact set holds =
     (limits : LimitValues) (bytes : List ℕ) (v : Viewed) (handover : Item) (links : List Link)
     → Views set holds limits bytes (Ok v)
     → IsHandoverRecord handover → length handover.payload < 2 ^ 32
     → LinksOf limits.profile (map run_record v.runs) (Some handover) (Ok links)
-    → AreLinksTold bytes handover.payload links
+    → AreLinksReported bytes handover.payload links

@@ -1,4 +1,4 @@
--- Where the records of messages in payloads lie.
+-- The places of the records of messages in payloads.
 use Rattle.std.specs.Prelude.{◌≡◌, ℕ, ◌+◌, ◌⊎◌, List, [], length, map, drop, Option, Some, None}
 use Rattle.std.specs.List.{AllByRecursion}
 use Rattle.ndef_format.specs.Messages.{Item, SpellsBy, run_record}
@@ -31,14 +31,14 @@ pub record StandsAt (bytes : List ℕ) (before : List Item) (i : Item) (at : ℕ
   pub begins : BeginsWithRun run (drop (at + length i.payload) bytes) (drop from bytes)
 
 -- .. after records of which this holds
-abbrev pub StandsBehind : (List Item → Type 0) → List ℕ → Item → ℕ → Type 0
-StandsBehind Q bytes i at = (before : List Item) × Q before × StandsAt bytes before i at
+abbrev pub LiesAfter : (List Item → Type 0) → List ℕ → Item → ℕ → Type 0
+LiesAfter Q bytes i at = (before : List Item) × Q before × StandsAt bytes before i at
 
 -- it is the payload of the record, and lies there, after records of which this holds
 pub record IsFound (Q : List Item → Type 0) (bytes : List ℕ) (i : Item) (f : Found) : Type 0 where
   pub payload : f.payload.now ≡ i.payload
   pub lies : Lies bytes f.at (length f.payload.now) i.payload
-  pub place : StandsBehind Q bytes i f.at
+  pub place : LiesAfter Q bytes i f.at
 
 -- the payload of the first record that has the property, if there is one
 abbrev pub FirstLies : (Item → Type 0) → List Item → List ℕ → Option Found → Type 0

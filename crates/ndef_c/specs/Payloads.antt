@@ -1,4 +1,4 @@
--- What is answered of the payload of a record, and what is written for a value.
+-- The answer for the payload of a record, and the octets that are written for a value.
 use Rattle.std.specs.Prelude.{◌≡◌, ℕ, ◌+◌, ◌^◌, ◌<◌, List, ◌∷◌, length, slice_index}
 use Rattle.ndef_format.specs.Records.{bit}
 use Rattle.ndef_format.specs.Reasons.{reason_number}
@@ -8,11 +8,11 @@ use Rattle.ndef_format.specs.Texts.{IsText, is_wide}
 use Rattle.ndef_format.specs.Uris.{IsUri}
 use Rattle.ndef_types.specs.Decoding.{Payloads, Reasons, RefusesPayload, Writing}
 use Rattle.ndef_types.specs.Values.{StandsForUri, language_octets, encoded_octets}
-use Rattle.ndef_c.specs.Rooms.{Gives}
+use Rattle.ndef_c.specs.Buffers.{Gives}
 use Rattle.ndef_c.specs.Walks.{Lies}
 use Rattle.ndef_c.specs.declared.checking.NdefChecked.{NdefChecked}
 use Rattle.ndef_c.specs.declared.text.NdefText.{NdefText}
-use Rattle.ndef_c.specs.declared.uri_view.NdefUri.{NdefUri}
+use Rattle.ndef_c.specs.declared.uri_parts.NdefUri.{NdefUri}
 
 -- the payload isn't in its set: where and why is given
 pub record RefusesWith (set : Payloads) (holds : Reasons) (payload : List ℕ) (out : NdefChecked) : Type 0 where
@@ -41,7 +41,7 @@ pub record IsTextAt (payload : List ℕ) (out : NdefText) : Type 0 where
   pub text_place : out.text_at ≡ out.language_at + out.language_length
   pub utf16 : out.utf16 ≡ bit (is_wide (slice_index payload 0))
 
--- what is written for the value is given
+-- the octets that are written for the value are given
 pub record GivesFor {V : Type 0} (written : Writing V) (value : V) (before after : List ℕ)
     (count status : ℕ) : Type 0 where
   pub payload : List ℕ
@@ -55,6 +55,6 @@ pub record IsUriAt (profile : Profile) (payload : List ℕ) (out : NdefUri) : Ty
   pub in_set : IsUri profile payload
   pub short : length payload < 2 ^ 32
   pub rest : List ℕ
-  pub behind : payload ≡ out.code ∷ rest
+  pub following : payload ≡ out.code ∷ rest
   pub place : out.rest_at ≡ 1
   pub count : out.rest_length ≡ length rest

@@ -6,12 +6,12 @@ use Rattle.ndef_format.specs.declared.tnf.Tnf.TheVariants.{Media}
 use Rattle.ndef_types.specs.Values.{WritesUri}
 use Rattle.ndef_c.specs.AlternativeWrites.{IsPartWithin, part_of}
 use Rattle.ndef_c.specs.Appending.{asked_of, text_record, well_known}
-use Rattle.ndef_c.specs.Made.{item_with}
+use Rattle.ndef_c.specs.PendingRecord.{item_with}
 use Rattle.ndef_c.specs.Texts.{MayBeText}
 use Rattle.ndef_c.specs.declared.poster_parts.NdefIconWriting.{NdefIconWriting}
 use Rattle.ndef_c.specs.declared.poster_parts.NdefTitleWriting.{NdefTitleWriting}
 
--- RTD URI 1.0: the record of the URI, as WritesUri says
+-- RTD URI 1.0: the record of the URI, as WritesUri defines it
 pub record IsUriItem (uri : List ℕ) (i : Item) : Type 0 where
   pub payload : List ℕ
   pub is : WritesUri uri payload

@@ -1,7 +1,7 @@
--- The names of what calls answer.
+-- The names of the statuses that calls return.
 use Rattle.std.specs.Prelude.{◌≡◌, ℕ, List, codes}
-use Rattle.ndef_c.specs.Rooms.{Gives}
-use Rattle.ndef_c.specs.declared.status.TheConstants.{OK, REFUSED, NO_ROOM, BAD_ARGUMENT, END, MORE}
+use Rattle.ndef_c.specs.Buffers.{Gives}
+use Rattle.ndef_c.specs.declared.status.TheConstants.{OK, REFUSED, BUFFER_TOO_SMALL, BAD_ARGUMENT, END, MORE}
 use Rattle.ndef_c.specs.declared.status_name.Status.{Status}
 use Rattle.ndef_c.specs.declared.status_name.Status.TheVariants as statuses
 
@@ -9,7 +9,7 @@ use Rattle.ndef_c.specs.declared.status_name.Status.TheVariants as statuses
 abbrev pub status_number : Status → ℕ
 status_number statuses.Ok = OK
 status_number statuses.Refused = REFUSED
-status_number statuses.NoRoom = NO_ROOM
+status_number statuses.BufferTooSmall = BUFFER_TOO_SMALL
 status_number statuses.BadArgument = BAD_ARGUMENT
 status_number statuses.End = END
 status_number statuses.More = MORE
@@ -18,7 +18,7 @@ status_number statuses.More = MORE
 abbrev pub name_of_status : Status → List ℕ
 name_of_status statuses.Ok = codes "Ok"
 name_of_status statuses.Refused = codes "Refused"
-name_of_status statuses.NoRoom = codes "NoRoom"
+name_of_status statuses.BufferTooSmall = codes "BufferTooSmall"
 name_of_status statuses.BadArgument = codes "BadArgument"
 name_of_status statuses.End = codes "End"
 name_of_status statuses.More = codes "More"

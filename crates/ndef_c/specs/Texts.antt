@@ -1,11 +1,11 @@
--- The texts that may be written, and what is said of those that are read.
+-- The texts that may be written, and the results for those that are read.
 use Rattle.std.specs.Prelude.{◌≡◌, ℕ, ◌≤◌, ◌^◌, ◌<◌, ◌==◌, Bool, true, List, length, chars, encode_utf8_all, IsAscii, IsUtf8, if◌then◌else◌}
 use Rattle.std.specs.Str.{all_scalars}
 use Rattle.ndef_format.specs.Texts.{IsText, spelled, units_of}
 use Rattle.ndef_types.specs.Values.{TextValue, StandsForText, text_payload}
 use Rattle.ndef_types.specs.declared.encoding.Encoding.{Encoding}
 use Rattle.ndef_types.specs.declared.encoding.Encoding.TheVariants.{Utf8, Utf16}
-use Rattle.ndef_c.specs.Rooms.{Gives}
+use Rattle.ndef_c.specs.Buffers.{Gives}
 
 -- ---- reading
 
@@ -24,11 +24,11 @@ pub record GivesText (payload before after : List ℕ) (count status : ℕ) : Ty
 
 -- ---- writing
 
--- 1 asks for UTF-16
+-- 1 selects UTF-16
 abbrev pub encoding_of : ℕ → Encoding
 encoding_of flags = if flags == 1 then Utf16 else Utf8
 
--- RTD Text 1.0: the text with that language code, in the encoding that is asked for
+-- RTD Text 1.0: the text with that language code, in the encoding that is requested
 abbrev pub asked_text : (flags : ℕ) (language text : List ℕ) → TextValue
 asked_text flags language text =
     record { encoding = encoding_of flags; language = language; text = chars text }
@@ -40,7 +40,7 @@ pub record MayBeSpelled (flags : ℕ) (language text : List ℕ) : Type 0 where
   pub ascii : IsAscii language
   pub utf8 : IsUtf8 text
 
--- RTD Text 1.0: and they leave room in a payload
+-- RTD Text 1.0: and they fit in a payload
 pub record MayBeText (flags : ℕ) (language text : List ℕ) : Type 0 where
   pub spelled : MayBeSpelled flags language text
   pub fits : length (text_payload (asked_text flags language text)) < 2 ^ 32

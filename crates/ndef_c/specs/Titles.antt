@@ -1,4 +1,4 @@
--- What is said of the titles and of the media type of a smart poster.
+-- The results for the titles and for the media type of a smart poster.
 use Rattle.std.specs.Prelude.{◌≡◌, ℕ, ◌+◌, ◌^◌, ◌<◌, true, List, length, slice_get, slice_index, Some}
 use Rattle.std.specs.Str.{str_eq_ignore_ascii_case}
 use Rattle.ndef_format.specs.Messages.{Item}
@@ -13,7 +13,7 @@ use Rattle.ndef_types.specs.Contents.{IsFirstOf, IsOfKind, Lack}
 use Rattle.ndef_types.specs.Posters.{titles}
 use Rattle.ndef_types.specs.Values.{encoded_octets, language_octets}
 use Rattle.ndef_c.specs.Arrays.{EachAt, GivesMany}
-use Rattle.ndef_c.specs.Nested.{StandsBehind}
+use Rattle.ndef_c.specs.Nested.{LiesAfter}
 use Rattle.ndef_c.specs.Posters.{HasPosterRecords}
 use Rattle.ndef_c.specs.Walks.{Lies}
 use Rattle.ndef_c.specs.declared.part.NdefPart.{NdefPart}
@@ -24,8 +24,8 @@ pub record IsPosterPayload (payload : List ℕ) : Type 0 where
   pub in_set : IsNest SmartPoster MOST_RECORDS Standard payload
   pub short : length payload < 2 ^ 32
 
--- RTD Text 1.0: where the parts lie of the text for which the payload of a record, at the place,
--- stands
+-- RTD Text 1.0: the places of the parts of a text, which is the value of the payload of a record at
+-- the place
 pub record LiesAsText (bytes payload : List ℕ) (at : ℕ) (out : NdefText) : Type 0 where
   pub language : Lies bytes out.language_at out.language_length (language_octets payload)
   pub text : Lies bytes out.text_at out.text_length (encoded_octets payload)
@@ -36,7 +36,7 @@ pub record LiesAsText (bytes payload : List ℕ) (at : ℕ) (out : NdefText) : T
 -- RTD Smart Poster 1.0, title record: the title with the index lies there
 abbrev pub IsTitleAt : List ℕ → List Item → ℕ → NdefText → Type 0
 IsTitleAt payload items index out = (i : Item) × (slice_get (titles items) index ≡ Some i)
-    × (at : ℕ) × StandsBehind (λ before. length (titles before) ≡ index) payload i at
+    × (at : ℕ) × LiesAfter (λ before. length (titles before) ≡ index) payload i at
     × LiesAsText payload i.payload at out
 
 -- RTD Smart Poster 1.0, title records: where each title of a poster lies is given, in their order
@@ -60,7 +60,7 @@ pub record FindsTitle (language payload : List ℕ) (out : NdefText) : Type 0 wh
   pub title : Item
   pub is_first : IsFirstOf (IsTitleIn language) items (Some title)
   pub at : ℕ
-  pub place : StandsBehind (Lack (IsTitleIn language)) payload title at
+  pub place : LiesAfter (Lack (IsTitleIn language)) payload title at
   pub lies : LiesAsText payload title.payload at out
 
 -- RTD Smart Poster 1.0, type record: where that of a poster lies, of several the first
@@ -71,7 +71,7 @@ pub record FindsMediaType (payload : List ℕ) (out : NdefPart) : Type 0 where
   pub media : Item
   pub is_first : IsFirstOf (IsOfKind SmartPoster kinds.MediaType) items (Some media)
   pub lies : Lies payload out.at out.length media.payload
-  pub place : StandsBehind (Lack (IsOfKind SmartPoster kinds.MediaType)) payload media out.at
+  pub place : LiesAfter (Lack (IsOfKind SmartPoster kinds.MediaType)) payload media out.at
 
 -- RTD Smart Poster 1.0: no record of a poster has the property
 pub record PosterLacks (P : Item → Type 0) (payload : List ℕ) : Type 0 where

@@ -1,4 +1,4 @@
--- Where the records of some bytes lie.
+-- The places of the records of some bytes.
 use Rattle.std.specs.Prelude.{◌≡◌, ℕ, ◌+◌, ◌<◌, ◌≤◌, ◌⊎◌, Bool, true, false, List, [], ◌∷◌, ◌++◌, length, take, drop, Ok, Option, Some, None}
 use Rattle.ndef_format.specs.Records.{Piece, Run, IsRun, pieces, code, bit}
 use Rattle.ndef_format.specs.Messages.{SpellsPieces, run_record}
@@ -8,7 +8,7 @@ use Rattle.ndef_format.specs.Payloads.{Sets}
 use Rattle.ndef_format.specs.Reasons.{Conditions}
 use Rattle.ndef_message.specs.Views.{Viewed, Views}
 use Rattle.ndef_piece.specs.Whole.{IsSplit}
-use Rattle.ndef_c.specs.Rooms.{Gives}
+use Rattle.ndef_c.specs.Buffers.{Gives}
 use Rattle.ndef_c.specs.declared.record.NdefRecord.{NdefRecord}
 use Rattle.ndef_c.specs.declared.walk.Walk.{Walk}
 
@@ -58,10 +58,10 @@ pub record IsRecordAt (bytes : List ℕ) (at : ℕ) (r : NdefRecord) : Type 0 wh
   pub id : Lies bytes r.id_at r.id_length (run_record run).id
   pub part : Lies bytes r.payload_at r.part_length run.initial.payload
   pub first : LiesFromTo bytes at run.initial (r.payload_at + r.part_length)
-  pub id_behind : r.id_at ≡ r.type_at + r.type_length
-  pub part_behind : r.payload_at ≡ r.id_at + r.id_length
+  pub id_after : r.id_at ≡ r.type_at + r.type_length
+  pub part_after : r.payload_at ≡ r.id_at + r.id_length
   pub payload : r.payload_length ≡ length (run_record run).payload
-  pub pieces_are : r.pieces ≡ length (pieces run)
+  pub pieces_are : r.chunks ≡ length (pieces run)
   pub last : r.last ≡ bit (ends_message run.initial run.later)
 
 -- the payload of the record at the place is given
@@ -85,7 +85,7 @@ pub record PassesOver (w : Walk) (r : NdefRecord) (after : Walk) : Type 0 where
   pub next : after.at ≡ r.end
   pub ends : after.ended ≡ ends_message record_is.run.initial record_is.run.later
 
--- what a step of a walk gives
+-- the result of a step of a walk
 abbrev pub WalksOn : Walk → Option NdefRecord → Walk → Type 0
 WalksOn w None after = IsOver w
 WalksOn w (Some r) after = PassesOver w r after
@@ -112,7 +112,7 @@ AreWalked bytes at (r ∷ rs) end =
     × (ends_message r.initial r.later ≡ is_last_run rs)
     × AreWalked bytes next rs end
 
--- What a check takes is walked from 0 to its end, in bytes that go no less far.
+-- A message that a check accepts is walked from 0 to its end, in bytes that go no less far.
 abbrev pub ChecksAreWalked : Sets → Conditions → Type 0
 ChecksAreWalked set holds = (limits : LimitValues) (input : List ℕ) (v : Viewed) (count : ℕ)
     → Views set holds limits input (Ok v)

@@ -7,7 +7,7 @@ use Rattle.ndef_c.specs.Writes.{MayBeWritten, asked, asked_octets, form_of, is_f
 use Rattle.ndef_c.specs.declared.writing.NdefWriting.{NdefWriting}
 use Rattle.ndef_c.specs.declared.writer.NdefWriter.{NdefWriter}
 
--- ---- what is asked by numbers
+-- -- the values that numbers select
 
 -- the lengths of a type, an id and a payload
 pub record Lengths : Type 0 where
@@ -15,7 +15,7 @@ pub record Lengths : Type 0 where
   pub id : ℕ
   pub payload : ℕ
 
--- the plan of the record that is asked for
+-- the plan of the record that is requested
 abbrev pub asked_plan : NdefWriting → Lengths → RecordPlan
 asked_plan how lengths = record {
   tnf = tnf_of how.tnf;
@@ -66,7 +66,7 @@ pub record IsWriter (w : NdefWriter) : Type 0 where
   pub may : MayBegin w.how (lengths_of w)
   pub begun : IsBegun (begun_of w)
 
--- the next octets can be asked for with this type, id and part of the payload
+-- the next octets may be requested with this type, id and part of the payload
 pub record MayGoOn (w : NdefWriter) (given : Given) : Type 0 where
   pub writer : IsWriter w
   pub continues : Continues (begun_of w) given

@@ -1,4 +1,4 @@
--- What is written of a record.
+-- The octets that are written for a record.
 use Rattle.std.specs.Prelude.{◌≡◌, ℕ, ◌/◌, ◌%◌, ◌≤◌, ◌==◌, nat_le, Bool, true, false, List, [], ◌∷◌, ◌++◌, length, Option, Some, None, if◌then◌else◌}
 use Rattle.std.specs.List.{flat_map}
 use Rattle.ndef_format.specs.Messages.{Item, IsShaped}
@@ -12,7 +12,7 @@ use Rattle.ndef_message.specs.Cut.{cut_run}
 use Rattle.ndef_message.specs.Written.{written_piece, cut_octets}
 use Rattle.ndef_c.specs.declared.writing.NdefWriting.{NdefWriting}
 use Rattle.ndef_c.specs.declared.writing.Parts.{Parts}
-use Rattle.ndef_c.specs.declared.writing.Way.{Way}
+use Rattle.ndef_c.specs.declared.writing.Placement.{Placement}
 
 -- NDEF 1.0, record layout and chunked payloads: the octets of a record in the pieces of its cut
 abbrev pub record_octets : Form → (first last : Bool) → Option ℕ → Item → List ℕ
@@ -23,12 +23,12 @@ record_octets form first last size m =
 abbrev pub item_of : Parts → Item
 item_of p = record { tnf = p.tnf; kind = p.kind.now; id = p.id.now; payload = p.payload.now }
 
--- NDEF 1.0, record layout: the octets of a head, and what follows it in its piece
+-- NDEF 1.0, record layout: the octets of a head, and the rest after it in its piece
 abbrev pub octets_of_piece : Head → (kind id part : List ℕ) → List ℕ
 octets_of_piece head kind id part = octets (written_fields head) ++ (kind ++ (id ++ part))
 
 -- the octets of a record that is written so
-abbrev pub octets_by : Way → Item → List ℕ
+abbrev pub octets_by : Placement → Item → List ℕ
 octets_by way m = record_octets way.form way.first way.last (Some way.size) m
 
 -- NDEF 1.0, chunked payloads: in the octets of a record that is written so, its last piece begins
@@ -39,25 +39,25 @@ pub record LastBegins (form : Form) (first last : Bool) (size : Option ℕ) (m :
   pub pieces_are : pieces (cut_run first last size m) ≡ done ++ piece ∷ []
   pub at_is : at ≡ length (flat_map (written_piece form) done)
 
--- ---- what is asked by numbers
+-- -- the values that numbers select
 
--- 4 asks for the long form
+-- 4 selects the long form
 abbrev pub form_of : NdefWriting → Form
 form_of how = if nat_le 4 how.flags then Long else Short
 
--- 1 asks for the first record of a message
+-- 1 selects the first record of a message
 abbrev pub is_first : NdefWriting → Bool
 is_first how = how.flags % 2 == 1
 
--- 2 asks for the last
+-- 2 selects the last
 abbrev pub is_last : NdefWriting → Bool
 is_last how = how.flags / 2 % 2 == 1
 
--- the payload bytes of a piece; 0 asks for one piece
+-- the payload bytes of a piece; 0 selects one piece
 abbrev pub size_of : NdefWriting → Option ℕ
 size_of how = if how.chunk == 0 then None else Some how.chunk
 
--- the record that is asked for
+-- the record that is requested
 abbrev pub asked : NdefWriting → (kind id payload : List ℕ) → Item
 asked how kind id payload = record { tnf = tnf_of how.tnf; kind = kind; id = id; payload = payload }
 

@@ -45,24 +45,24 @@ fn alternative_at(payload: &[u8]) -> NdefAlternative
 pub extern "C" fn ndef_alternative(
     payload: &[u8],
     out: &mut NdefAlternative,
-    why: &mut NdefChecked,
+    refusal: &mut NdefChecked,
 ) -> u32
     ensures known { (result ≡ OK) ⊎ (result ≡ REFUSED) }
     ensures alternative { result ≡ OK → IsAlternativeAt payload.now out.new }
-    ensures refused { result ≡ REFUSED → RefusesWith IsAlternative (λ s b. NoReason) payload.now why.new }
+    ensures refused { result ≡ REFUSED → RefusesWith IsAlternative (λ s b. NoReason) payload.now refusal.new }
     ensures kept { result ≡ REFUSED → out.new ≡ out.old }
-    ensures kept_why { result ≡ OK → why.new ≡ why.old }
+    ensures kept_refusal { result ≡ OK → refusal.new ≡ refusal.old }
 {
     match accept::<Leaf>(Kind::Alternative, Profile::Strict, payload) {
         Ok(()) => {
             *out = alternative_at(payload);
             OK
         }
-        Err(refusal) => refuse(refusal, why),
+        Err(found) => refuse(found, refusal),
     }
 }
 
-/// The reference that stands after its length at a place.
+/// The reference after its length octet, at an offset.
 pub(crate) fn counted_at(payload: &[u8], at: usize) -> NdefPart
     requires { at < length payload.now }
     ensures at { result.at ≡ at + 1 }

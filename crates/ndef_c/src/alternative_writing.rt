@@ -3,7 +3,7 @@ ghost use Rattle.std.specs.Prelude.{◌≡◌, ◌∷◌, ◌↔◌, length, IfN
 ghost use Rattle.std.specs.List.{All, flat_map};
 ghost use Rattle.ndef_c.specs.AlternativeWrites.{GivesAlternative, MayBeAlternative, MayBeReference, counted_part};
 ghost use Rattle.ndef_c.specs.Contents.{IsContent, alternative_octets, alternative_payload, content_octets};
-ghost use Rattle.ndef_c.specs.Rooms.{Puts};
+ghost use Rattle.ndef_c.specs.Buffers.{Puts};
 
 use crate::content::{Content, give_content};
 use crate::out::Out;
@@ -68,7 +68,7 @@ pub(crate) fn put_alternative(
     put_references(out, bytes, auxiliary);
 }
 
-/// What is written for an alternative carrier, if its power and references may be so.
+/// Returns the content of an alternative carrier, if its power state and references may be written.
 pub(crate) fn alternative_content<'a>(
     power: u32,
     bytes: &'a [u8],
@@ -100,16 +100,16 @@ pub extern "C" fn ndef_write_alternative<'a>(
     power: u32,
     bytes: &'a [u8],
     parts: &'a [NdefPart],
-    room: &mut [u8],
+    buffer: &mut [u8],
     count: &mut usize,
 ) -> u32
     ensures bad { result ≡ BAD_ARGUMENT ↔ ¬ MayBeAlternative power bytes.now parts.now }
-    ensures kept { result ≡ BAD_ARGUMENT → (room.new ≡ room.old) × (count.new ≡ count.old) }
+    ensures kept { result ≡ BAD_ARGUMENT → (buffer.new ≡ buffer.old) × (count.new ≡ count.old) }
     ensures payload { MayBeAlternative power bytes.now parts.now
-        → GivesAlternative power bytes.now parts.now room.old room.new count.new result }
+        → GivesAlternative power bytes.now parts.now buffer.old buffer.new count.new result }
 {
     let Some(content) = alternative_content(power, bytes, parts) else {
         return BAD_ARGUMENT;
     };
-    give_content(&content, room, count)
+    give_content(&content, buffer, count)
 }

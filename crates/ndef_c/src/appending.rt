@@ -1,43 +1,43 @@
-//! Texts and URIs that are appended to a message in a room, their payloads written in place.
+//! Texts and URIs that are appended to a message in a buffer, their payloads written in place.
 ghost use Rattle.std.specs.Prelude.{◌≡◌, ◌≢◌, ◌↔◌, ◌⊎◌, IsTrue, IsUtf8};
 ghost use Rattle.ndef_types.specs.Decoding.{IsTooLong};
 ghost use Rattle.ndef_types.specs.Values.{WritesUri};
 ghost use Rattle.ndef_c.specs.Appending.{GivesUriThere, MayBeJoined, MayBeTextThere, asked_of, text_record};
 ghost use Rattle.ndef_c.specs.Built.{GivesWhole, MayBeGrown, held};
 
-use crate::building::{NdefBuilt, append_made, may_grow};
+use crate::building::{NdefMessageBuilder, append_pending_record, may_grow};
 use crate::content::{Content, content_length};
-use crate::making::Made;
+use crate::making::PendingRecord;
 use crate::status::BAD_ARGUMENT;
 use crate::text::text_content;
 use ndef_types::split;
 use ndef_value::Tnf;
 
-/// Whether a record with the id can stand after the message with which the room begins.
-fn may_join(room: &[u8], built: &NdefBuilt, id: &[u8]) -> bool
-    ensures { IsTrue result ↔ MayBeJoined id.now (held room.now built.now) }
+/// Whether a record with the id may follow the message with which the buffer begins.
+fn may_join(buffer: &[u8], builder: &NdefMessageBuilder, id: &[u8]) -> bool
+    ensures { IsTrue result ↔ MayBeJoined id.now (held buffer.now builder.now) }
 {
-    id.len() <= 255 && may_grow(room, built)
+    id.len() <= 255 && may_grow(buffer, builder)
 }
 
 /// Appends the record of a text (RTD Text 1.0), which is given in UTF-8.
 #[unsafe(no_mangle)]
 pub extern "C" fn ndef_append_text(
-    built: &mut NdefBuilt,
+    builder: &mut NdefMessageBuilder,
     id: &[u8],
     language: &[u8],
     text: &[u8],
     flags: u32,
-    room: &mut [u8],
+    buffer: &mut [u8],
     count: &mut usize,
 ) -> u32
     ensures bad { result ≡ BAD_ARGUMENT
-        ↔ ¬ MayBeTextThere id.now (asked_of flags language.now text.now) (held room.old built.old) }
-    ensures kept_room { result ≡ BAD_ARGUMENT → (room.new ≡ room.old) × (count.new ≡ count.old) }
-    ensures kept { result ≡ BAD_ARGUMENT → built.new ≡ built.old }
+        ↔ ¬ MayBeTextThere id.now (asked_of flags language.now text.now) (held buffer.old builder.old) }
+    ensures kept_buffer { result ≡ BAD_ARGUMENT → (buffer.new ≡ buffer.old) × (count.new ≡ count.old) }
+    ensures kept { result ≡ BAD_ARGUMENT → builder.new ≡ builder.old }
     ensures appended { result ≢ BAD_ARGUMENT
         → GivesWhole (text_record id.now (asked_of flags language.now text.now))
-        (held room.old built.old) (held room.new built.new) count.new result }
+        (held buffer.old builder.old) (held buffer.new builder.new) count.new result }
 {
     let Some(content) = text_content(language, text, flags) else {
         return BAD_ARGUMENT;
@@ -45,35 +45,35 @@ pub extern "C" fn ndef_append_text(
     let Some(bytes) = content_length(&content) else {
         return BAD_ARGUMENT;
     };
-    if !may_join(room, built, id) {
+    if !may_join(buffer, builder, id) {
         return BAD_ARGUMENT;
     }
-    let made = Made {
+    let made = PendingRecord {
         tnf: Tnf::WellKnown,
         kind: b"T",
         id,
         content,
         bytes,
     };
-    append_made(room, built, &made, count)
+    append_pending_record(buffer, builder, &made, count)
 }
 
 /// Appends the record of a URI (RTD URI 1.0), by the longest prefix that begins the URI.
 #[unsafe(no_mangle)]
 pub extern "C" fn ndef_append_uri(
-    built: &mut NdefBuilt,
+    builder: &mut NdefMessageBuilder,
     id: &[u8],
     uri: &[u8],
-    room: &mut [u8],
+    buffer: &mut [u8],
     count: &mut usize,
 ) -> u32
     ensures bad { result ≡ BAD_ARGUMENT → (¬ IsUtf8 uri.now) ⊎ IsTooLong WritesUri uri.now
-        ⊎ ¬ MayBeJoined id.now (held room.old built.old) }
-    ensures kept_room { result ≡ BAD_ARGUMENT → (room.new ≡ room.old) × (count.new ≡ count.old) }
-    ensures kept { result ≡ BAD_ARGUMENT → built.new ≡ built.old }
-    ensures may { result ≢ BAD_ARGUMENT → IsUtf8 uri.now × MayBeJoined id.now (held room.old built.old) }
+        ⊎ ¬ MayBeJoined id.now (held buffer.old builder.old) }
+    ensures kept_buffer { result ≡ BAD_ARGUMENT → (buffer.new ≡ buffer.old) × (count.new ≡ count.old) }
+    ensures kept { result ≡ BAD_ARGUMENT → builder.new ≡ builder.old }
+    ensures may { result ≢ BAD_ARGUMENT → IsUtf8 uri.now × MayBeJoined id.now (held buffer.old builder.old) }
     ensures appended { result ≢ BAD_ARGUMENT
-        → GivesUriThere id.now uri.now (held room.old built.old) (held room.new built.new) count.new result }
+        → GivesUriThere id.now uri.now (held buffer.old builder.old) (held buffer.new builder.new) count.new result }
 {
     let Ok(text) = simdutf8::basic::from_utf8(uri) else {
         return BAD_ARGUMENT;
@@ -83,15 +83,15 @@ pub extern "C" fn ndef_append_uri(
     let Some(bytes) = content_length(&content) else {
         return BAD_ARGUMENT;
     };
-    if !may_join(room, built, id) {
+    if !may_join(buffer, builder, id) {
         return BAD_ARGUMENT;
     }
-    let made = Made {
+    let made = PendingRecord {
         tnf: Tnf::WellKnown,
         kind: b"U",
         id,
         content,
         bytes,
     };
-    append_made(room, built, &made, count)
+    append_pending_record(buffer, builder, &made, count)
 }

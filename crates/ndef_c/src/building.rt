@@ -1,23 +1,23 @@
-//! A message that is built in the room of its caller, whole after each record.
+//! A message that is built in the buffer of its caller, whole after each record.
 ghost use Rattle.std.specs.Prelude.{◌≡◌, ◌≢◌, ◌≤◌, ◌↔◌, length, take, drop, Some, IsTrue};
 ghost use Rattle.ndef_format.specs.Canonical.{HasLengths};
 ghost use Rattle.ndef_c.specs.Built.{AppendedBegins, EndsWithPiece, GivesAppended, GivesWhole, MayBeAppended, MayBeGrown, appended_octets, held, is_first_of, reopened};
-ghost use Rattle.ndef_c.specs.Made.{IsMade, made_item};
+ghost use Rattle.ndef_c.specs.PendingRecord.{IsMade, made_item};
 ghost use Rattle.ndef_c.specs.Writes.{LastBegins, asked, item_of, octets_by};
 
-use crate::making::{Ends, Made, put_made};
+use crate::making::{Ends, PendingRecord, put_pending_record};
 use crate::out::Out;
-use crate::status::{BAD_ARGUMENT, NO_ROOM, OK};
-use crate::writing::{NdefWriting, Parts, Way, asked_parts, put_record, way_of};
-use ndef_piece::{heads_are_apart, whole_piece};
+use crate::status::{BAD_ARGUMENT, BUFFER_TOO_SMALL, OK};
+use crate::writing::{NdefWriting, Parts, Placement, asked_parts, put_record, way_of};
+use ndef_piece::{heads_are_unambiguous, whole_piece};
 
-/// What is known of a message that is being built in a buffer; all 0: no record is there yet.
+/// The state of a message that is being built in a buffer; all 0: it has no record yet.
 #[repr(C)]
 #[derive(Clone, Copy, Drop)]
-pub struct NdefBuilt {
+pub struct NdefMessageBuilder {
     /// Its bytes.
     pub length: u64,
-    /// Where its last chunk begins.
+    /// The offset of its last chunk.
     pub last_at: u64,
     /// Its records.
     pub records: u32,
@@ -28,12 +28,12 @@ fn ends_with_piece(bytes: &[u8], at: u64) -> bool
     ensures { IsTrue result ↔ EndsWithPiece bytes.now at }
 {
     // For the proof alone.
-    heads_are_apart();
+    heads_are_unambiguous();
     if at > bytes.len() as u64 {
         return false;
     }
-    let (_before, behind) = bytes.split_at(at as usize);
-    let Some(piece) = whole_piece(behind) else {
+    let (_before, following) = bytes.split_at(at as usize);
+    let Some(piece) = whole_piece(following) else {
         return false;
     };
     if !piece.is_last() {
@@ -46,88 +46,89 @@ fn ends_with_piece(bytes: &[u8], at: u64) -> bool
 }
 
 /// Whether a record can be appended.
-pub(crate) fn may_grow(room: &[u8], built: &NdefBuilt) -> bool
-    ensures { IsTrue result ↔ MayBeGrown (held room.now built.now) }
+pub(crate) fn may_grow(buffer: &[u8], builder: &NdefMessageBuilder) -> bool
+    ensures { IsTrue result ↔ MayBeGrown (held buffer.now builder.now) }
 {
-    if built.length == 0 {
-        return built.last_at == 0 && built.records == 0;
+    if builder.length == 0 {
+        return builder.last_at == 0 && builder.records == 0;
     }
-    if built.length > room.len() as u64 || built.records == u32::MAX {
+    if builder.length > buffer.len() as u64 || builder.records == u32::MAX {
         return false;
     }
-    ends_with_piece(&room[..built.length as usize], built.last_at)
+    ends_with_piece(&buffer[..builder.length as usize], builder.last_at)
 }
 
 /// Clears the bit that ends the message (NDEF 1.0, ME), if there is one.
-fn reopen(room: &mut [u8], built: &NdefBuilt)
-    requires { MayBeGrown (held room.old built.now) }
-    ensures front { take built.now.length room.new ≡ reopened (held room.old built.now) }
-    ensures behind { drop built.now.length room.new ≡ drop built.now.length room.old }
-    ensures size { length room.new ≡ length room.old }
+fn reopen(buffer: &mut [u8], builder: &NdefMessageBuilder)
+    requires { MayBeGrown (held buffer.old builder.now) }
+    ensures front { take builder.now.length buffer.new ≡ reopened (held buffer.old builder.now) }
+    ensures following { drop builder.now.length buffer.new ≡ drop builder.now.length buffer.old }
+    ensures size { length buffer.new ≡ length buffer.old }
 {
-    if built.length > 0 {
-        room[built.last_at as usize] -= 64;
+    if builder.length > 0 {
+        buffer[builder.last_at as usize] -= 64;
     }
 }
 
-/// Appends a record to the message with which the room begins.
+/// Appends a record to the message with which the buffer begins.
 fn append(
-    room: &mut [u8],
-    built: &mut NdefBuilt,
+    buffer: &mut [u8],
+    builder: &mut NdefMessageBuilder,
     parts: &Parts<'_>,
-    way: Way,
+    way: Placement,
     count: &mut usize,
 ) -> u32
-    requires grow { MayBeGrown (held room.old built.old) }
+    requires grow { MayBeGrown (held buffer.old builder.old) }
     requires lengths { HasLengths (item_of parts.now) }
     requires some { 1 ≤ way.size }
     ensures { GivesAppended (octets_by way (item_of parts.now))
         (LastBegins way.form way.first way.last (Some way.size) (item_of parts.now))
-        (held room.old built.old) (held room.new built.new) count.new result }
+        (held buffer.old builder.old) (held buffer.new builder.new) count.new result }
 {
-    let start = built.length as usize;
+    let start = builder.length as usize;
     let mut counter = Out::new(&mut [], start);
     let last = put_record(&mut counter, parts, way);
     *count = counter.at();
-    if room.len() < *count {
-        return NO_ROOM;
+    if buffer.len() < *count {
+        return BUFFER_TOO_SMALL;
     }
-    reopen(room, built);
-    let _last = put_record(&mut Out::new(room, start), parts, way);
-    *built = NdefBuilt {
+    reopen(buffer, builder);
+    let _last = put_record(&mut Out::new(buffer, start), parts, way);
+    *builder = NdefMessageBuilder {
         length: *count as u64,
         last_at: last as u64,
-        records: built.records + 1,
+        records: builder.records + 1,
     };
     OK
 }
 
 /// Appends a well-known record in one piece, its payload written in place.
-pub(crate) fn append_made(
-    room: &mut [u8],
-    built: &mut NdefBuilt,
-    made: &Made<'_>,
+pub(crate) fn append_pending_record(
+    buffer: &mut [u8],
+    builder: &mut NdefMessageBuilder,
+    made: &PendingRecord<'_>,
     count: &mut usize,
 ) -> u32
-    requires grow { MayBeGrown (held room.old built.old) }
+    requires grow { MayBeGrown (held buffer.old builder.old) }
     requires made { IsMade made.now }
-    ensures { GivesWhole (made_item made.now) (held room.old built.old) (held room.new built.new) count.new result }
+    ensures { GivesWhole (made_item made.now) (held buffer.old builder.old)
+        (held buffer.new builder.new) count.new result }
 {
-    let start = built.length as usize;
-    let first = built.length == 0;
+    let start = builder.length as usize;
+    let first = builder.length == 0;
     let ends = Ends { first, last: true };
     let mut counter = Out::new(&mut [], start);
-    put_made(&mut counter, made, ends);
+    put_pending_record(&mut counter, made, ends);
     *count = counter.at();
-    if room.len() < *count {
-        return NO_ROOM;
+    if buffer.len() < *count {
+        return BUFFER_TOO_SMALL;
     }
-    reopen(room, built);
-    put_made(&mut Out::new(room, start), made, ends);
-    *built = NdefBuilt {
+    reopen(buffer, builder);
+    put_pending_record(&mut Out::new(buffer, start), made, ends);
+    *builder = NdefMessageBuilder {
         length: *count as u64,
         last_at: start as u64,
-        records: built.records + 1,
+        records: builder.records + 1,
     };
     OK
 }
@@ -137,35 +138,35 @@ pub(crate) fn append_made(
 /// is.
 #[unsafe(no_mangle)]
 pub extern "C" fn ndef_append(
-    built: &mut NdefBuilt,
+    builder: &mut NdefMessageBuilder,
     kind: &[u8],
     id: &[u8],
     payload: &[u8],
     how: &NdefWriting,
-    room: &mut [u8],
+    buffer: &mut [u8],
     count: &mut usize,
 ) -> u32
     ensures bad { result ≡ BAD_ARGUMENT ↔ ¬ (MayBeAppended how.now (asked how.now kind.now id.now payload.now)
-        × MayBeGrown (held room.old built.old)) }
-    ensures kept_room { result ≡ BAD_ARGUMENT → (room.new ≡ room.old) × (count.new ≡ count.old) }
-    ensures kept { result ≡ BAD_ARGUMENT → built.new ≡ built.old }
+        × MayBeGrown (held buffer.old builder.old)) }
+    ensures kept_buffer { result ≡ BAD_ARGUMENT → (buffer.new ≡ buffer.old) × (count.new ≡ count.old) }
+    ensures kept { result ≡ BAD_ARGUMENT → builder.new ≡ builder.old }
     ensures appended { result ≢ BAD_ARGUMENT
-        → GivesAppended (appended_octets (is_first_of built.old) how.now (asked how.now kind.now id.now payload.now))
-        (AppendedBegins (is_first_of built.old) how.now (asked how.now kind.now id.now payload.now))
-        (held room.old built.old) (held room.new built.new) count.new result }
+        → GivesAppended (appended_octets (is_first_of builder.old) how.now (asked how.now kind.now id.now payload.now))
+        (AppendedBegins (is_first_of builder.old) how.now (asked how.now kind.now id.now payload.now))
+        (held buffer.old builder.old) (held buffer.new builder.new) count.new result }
 {
-    if (how.flags != 0 && how.flags != 4) || !may_grow(room, built) {
+    if (how.flags != 0 && how.flags != 4) || !may_grow(buffer, builder) {
         return BAD_ARGUMENT;
     }
     let Some(parts) = asked_parts(kind, id, payload, how) else {
         return BAD_ARGUMENT;
     };
     let asked = way_of(how);
-    let way = Way {
-        first: built.length == 0,
+    let way = Placement {
+        first: builder.length == 0,
         last: true,
         form: asked.form,
         size: asked.size,
     };
-    append(room, built, &parts, way, count)
+    append(buffer, builder, &parts, way, count)
 }

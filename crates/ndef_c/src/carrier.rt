@@ -6,9 +6,9 @@ ghost use Rattle.ndef_types.specs.Values.{WritesCarrier};
 ghost use Rattle.ndef_c.specs.Carriers.{IsCarrierAt, MayBeCarrier, carrier_of};
 ghost use Rattle.ndef_c.specs.Payloads.{GivesFor, RefusesWith};
 
+use crate::buffer::give_parts;
 use crate::checking::NdefChecked;
 use crate::refusal::refuse;
-use crate::room::give_parts;
 use crate::status::{BAD_ARGUMENT, OK, REFUSED};
 use ndef_lang::{Kind, Leaf};
 use ndef_types::{CarrierParts, accept};
@@ -18,11 +18,11 @@ use ndef_value::Profile;
 #[repr(C)]
 #[derive(Clone, Copy, Drop)]
 pub struct NdefCarrier {
-    /// Where the carrier type begins.
+    /// The offset of the carrier type.
     pub type_at: usize,
     /// The bytes of the carrier type, at most 255.
     pub type_length: usize,
-    /// Where the carrier data begins.
+    /// The offset of the carrier data.
     pub data_at: usize,
     /// The bytes of the carrier data.
     pub data_length: usize,
@@ -30,7 +30,7 @@ pub struct NdefCarrier {
     pub format: u32,
 }
 
-/// Where the parts of a carrier lie in its payload.
+/// Returns the offsets and lengths of the parts of a carrier in its payload.
 fn carrier_at(payload: &[u8]) -> NdefCarrier
     requires carrier { IsCarrier payload.now }
     requires short { length payload.now < 2 ^ 32 }
@@ -49,19 +49,23 @@ fn carrier_at(payload: &[u8]) -> NdefCarrier
 
 /// Gives the offsets of the parts of the carrier that the payload of a Handover Carrier record describes.
 #[unsafe(no_mangle)]
-pub extern "C" fn ndef_carrier(payload: &[u8], out: &mut NdefCarrier, why: &mut NdefChecked) -> u32
+pub extern "C" fn ndef_carrier(
+    payload: &[u8],
+    out: &mut NdefCarrier,
+    refusal: &mut NdefChecked,
+) -> u32
     ensures known { (result ≡ OK) ⊎ (result ≡ REFUSED) }
     ensures carrier { result ≡ OK → IsCarrierAt payload.now out.new }
-    ensures refused { result ≡ REFUSED → RefusesWith IsCarrier (λ s b. NoReason) payload.now why.new }
+    ensures refused { result ≡ REFUSED → RefusesWith IsCarrier (λ s b. NoReason) payload.now refusal.new }
     ensures kept { result ≡ REFUSED → out.new ≡ out.old }
-    ensures kept_why { result ≡ OK → why.new ≡ why.old }
+    ensures kept_refusal { result ≡ OK → refusal.new ≡ refusal.old }
 {
     match accept::<Leaf>(Kind::Carrier, Profile::Strict, payload) {
         Ok(()) => {
             *out = carrier_at(payload);
             OK
         }
-        Err(refusal) => refuse(refusal, why),
+        Err(found) => refuse(found, refusal),
     }
 }
 
@@ -78,13 +82,13 @@ pub extern "C" fn ndef_write_carrier(
     format: u32,
     kind: &[u8],
     carried: &[u8],
-    room: &mut [u8],
+    buffer: &mut [u8],
     count: &mut usize,
 ) -> u32
     ensures bad { result ≡ BAD_ARGUMENT ↔ ¬ MayBeCarrier format kind.now carried.now }
-    ensures kept { result ≡ BAD_ARGUMENT → (room.new ≡ room.old) × (count.new ≡ count.old) }
+    ensures kept { result ≡ BAD_ARGUMENT → (buffer.new ≡ buffer.old) × (count.new ≡ count.old) }
     ensures payload { MayBeCarrier format kind.now carried.now
-        → GivesFor WritesCarrier (carrier_of format kind.now carried.now) room.old room.new count.new result }
+        → GivesFor WritesCarrier (carrier_of format kind.now carried.now) buffer.old buffer.new count.new result }
 {
     if !may_be_carrier(format, kind, carried) {
         return BAD_ARGUMENT;
@@ -93,7 +97,7 @@ pub extern "C" fn ndef_write_carrier(
         &[format as u8, kind.len() as u8],
         kind,
         carried,
-        room,
+        buffer,
         count,
     )
 }

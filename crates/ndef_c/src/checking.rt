@@ -10,7 +10,7 @@ use ndef_message::view;
 use ndef_nest::Typed;
 use ndef_value::Limits;
 
-/// What a check answers.
+/// The answer of a check.
 #[repr(C)]
 #[derive(Clone, Copy, Drop)]
 pub struct NdefChecked {

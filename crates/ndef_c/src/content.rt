@@ -1,16 +1,16 @@
-//! What is written as the payload of a record, in the place where it belongs.
+//! The content of a record's payload, which is written directly to its place in the buffer.
 ghost use Rattle.std.specs.Prelude.{◌≡◌, ◌≢◌, ◌≤◌, ◌^◌, ◌↔◌, length, IfSome, IsNone};
 ghost use Rattle.ndef_c.specs.Contents.{IsContent, content_octets};
-ghost use Rattle.ndef_c.specs.Rooms.{Gives, Puts};
+ghost use Rattle.ndef_c.specs.Buffers.{Gives, Puts};
 
 use crate::alternative_writing::put_alternative;
+use crate::buffer::put_parts;
 use crate::out::Out;
 use crate::part::NdefPart;
-use crate::room::put_parts;
-use crate::status::{BAD_ARGUMENT, NO_ROOM, OK};
+use crate::status::{BAD_ARGUMENT, BUFFER_TOO_SMALL, OK};
 use crate::utf16::put_units;
 
-/// What is written as a payload.
+/// The content of a payload that is written.
 #[derive(Clone, Copy)]
 pub(crate) enum Content<'a> {
     /// RTD Text 1.0: a text in UTF-8, and its language code of up to 63 bytes.
@@ -88,21 +88,21 @@ pub(crate) fn content_length(content: &Content<'_>) -> Option<usize>
     Some(length)
 }
 
-/// Writes it to the room where that is large enough, sets `count` to its number of bytes, and returns the status.
-pub(crate) fn give_content(content: &Content<'_>, room: &mut [u8], count: &mut usize) -> u32
+/// Writes it to the buffer where that is large enough, sets `count` to its number of bytes, and returns the status.
+pub(crate) fn give_content(content: &Content<'_>, buffer: &mut [u8], count: &mut usize) -> u32
     requires { IsContent content.now }
     ensures bad { result ≡ BAD_ARGUMENT ↔ (2 ^ 32 ≤ length (content_octets content.now)) }
-    ensures kept { result ≡ BAD_ARGUMENT → (room.new ≡ room.old) × (count.new ≡ count.old) }
+    ensures kept { result ≡ BAD_ARGUMENT → (buffer.new ≡ buffer.old) × (count.new ≡ count.old) }
     ensures payload { result ≢ BAD_ARGUMENT
-        → Gives (content_octets content.now) room.old room.new count.new result }
+        → Gives (content_octets content.now) buffer.old buffer.new count.new result }
 {
     let Some(needed) = content_length(content) else {
         return BAD_ARGUMENT;
     };
     *count = needed;
-    if room.len() < needed {
-        return NO_ROOM;
+    if buffer.len() < needed {
+        return BUFFER_TOO_SMALL;
     }
-    put_content(&mut Out::new(room, 0), content);
+    put_content(&mut Out::new(buffer, 0), content);
     OK
 }

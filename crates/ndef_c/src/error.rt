@@ -2,11 +2,11 @@
 ghost use Rattle.std.specs.Prelude.{◌≡◌, ◌<◌, ◌^◌, ◌⊎◌, length};
 ghost use Rattle.ndef_format.specs.Handovers.{IsError, IsErrorData};
 ghost use Rattle.ndef_format.specs.Reasons.{NoReason};
-ghost use Rattle.ndef_c.specs.Errors.{IsErrorAt, number_told};
+ghost use Rattle.ndef_c.specs.Errors.{IsErrorAt, number_reported};
 ghost use Rattle.ndef_c.specs.Payloads.{RefusesWith};
 
 use crate::checking::NdefChecked;
-use crate::poster::told;
+use crate::poster::reported;
 use crate::refusal::refuse;
 use crate::status::{OK, REFUSED};
 use ndef_lang::{Kind, Leaf};
@@ -17,7 +17,7 @@ use ndef_value::Profile;
 #[repr(C)]
 #[derive(Clone, Copy, Drop)]
 pub struct NdefError {
-    /// Where the data begin.
+    /// The offset of the data.
     pub data_at: usize,
     /// The bytes of the data.
     pub data_length: usize,
@@ -32,7 +32,7 @@ pub struct NdefError {
 /// The number that the data of a defined reason give.
 fn number_of(reason: u8, detail: &[u8]) -> Option<u32>
     requires { IsErrorData reason detail.now }
-    ensures { result ≡ number_told reason detail.now }
+    ensures { result ≡ number_reported reason detail.now }
 {
     match (reason, detail) {
         (1 | 3, [number]) => Some(u32::from(*number)),
@@ -51,7 +51,7 @@ fn error_at(payload: &[u8]) -> NdefError
     errors_are_exact();
     let parts = ErrorParts::new(payload);
     let (reason, detail) = (parts.reason(), parts.detail());
-    let (has_number, number) = told(number_of(reason, detail));
+    let (has_number, number) = reported(number_of(reason, detail));
     NdefError {
         data_at: 1,
         data_length: detail.len(),
@@ -64,18 +64,18 @@ fn error_at(payload: &[u8]) -> NdefError
 /// Gives the reason of the error that the payload of an Error record describes, where its data
 /// lie, and the number that they give.
 #[unsafe(no_mangle)]
-pub extern "C" fn ndef_error(payload: &[u8], out: &mut NdefError, why: &mut NdefChecked) -> u32
+pub extern "C" fn ndef_error(payload: &[u8], out: &mut NdefError, refusal: &mut NdefChecked) -> u32
     ensures known { (result ≡ OK) ⊎ (result ≡ REFUSED) }
     ensures error { result ≡ OK → IsErrorAt payload.now out.new }
-    ensures refused { result ≡ REFUSED → RefusesWith IsError (λ s b. NoReason) payload.now why.new }
+    ensures refused { result ≡ REFUSED → RefusesWith IsError (λ s b. NoReason) payload.now refusal.new }
     ensures kept { result ≡ REFUSED → out.new ≡ out.old }
-    ensures kept_why { result ≡ OK → why.new ≡ why.old }
+    ensures kept_refusal { result ≡ OK → refusal.new ≡ refusal.old }
 {
     match accept::<Leaf>(Kind::Error, Profile::Strict, payload) {
         Ok(()) => {
             *out = error_at(payload);
             OK
         }
-        Err(refusal) => refuse(refusal, why),
+        Err(found) => refuse(found, refusal),
     }
 }

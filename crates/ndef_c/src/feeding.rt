@@ -13,12 +13,12 @@ use crate::limits::{NdefLimits, limits_of};
 use crate::refusal::{refuse, refused_by};
 use crate::status::{BAD_ARGUMENT, MORE, OK};
 use ndef_lang::{Opaque, RecordLanguage};
-use ndef_message::{Checker, Fed, places_are_told};
+use ndef_message::{Checker, Fed, places_are_exact};
 use ndef_nest::Typed;
 use ndef_value::{Reason, Refusal};
 use std::mem::{align_of, size_of};
 
-/// A checker, and what it looks into.
+/// A checker, and whether it validates payloads.
 #[derive(Drop)]
 pub(crate) enum Looking {
     /// No checker, since the limits are invalid.
@@ -35,7 +35,7 @@ pub struct NdefChecker {
     looking: Looking,
 }
 
-// What `include/ndef.h` says of its bytes.
+// The size that `include/ndef.h` states.
 const _: () = prove!(size_of::<NdefChecker>() <= 488);
 
 const _: () = prove!(align_of::<NdefChecker>() == 8);
@@ -47,7 +47,7 @@ fn feed<L: RecordLanguage>(checker: &mut Checker<L>, bytes: &[u8], out: &mut Nde
         × FeedsTo L.payloads L.reasons limits (front ++ bytes.now) result out.new }
 {
     // For the proof alone.
-    places_are_told::<L>();
+    places_are_exact::<L>();
     match checker.feed(bytes) {
         Fed::More => {
             *out = refused_by(Refusal {
@@ -107,7 +107,7 @@ fn feed_checker(checker: &mut NdefChecker, bytes: &[u8], out: &mut NdefChecked) 
 /// Begins a checker in the caller's memory.
 #[unsafe(no_mangle)]
 pub unsafe extern "C" fn ndef_begin(limits: &NdefLimits, checker: *mut NdefChecker) -> u32
-    requires* room { sem 𝓛 (room_at NdefCheckers.the_row checker) }
+    requires* buffer { sem 𝓛 (room_at NdefCheckers.the_row checker) }
     ensures* begun { ∃ₛ (λ (c : NdefChecker). sem 𝓛 (lies_at NdefCheckers.the_row full_share checker c)
         ∗ ⌜ IsFed c (record { limits = limits.now; bytes = [] }) ⌝) }
     ensures status { BeginsTo limits.now result }

@@ -2,7 +2,7 @@
 ghost use Rattle.std.specs.Prelude.{◌≡◌, ◌≢◌, ◌<◌, ◌≤◌, ◌⊎◌, ◌↔◌, IfSome, IsSome};
 ghost use Rattle.ndef_c.specs.Fields.{GivesFieldName, field_number};
 
-use crate::room::give;
+use crate::buffer::give;
 use crate::status::BAD_ARGUMENT;
 use ndef_fields::FieldName;
 
@@ -15,7 +15,7 @@ pub(crate) fn number_of(name: FieldName) -> u32
 
 /// The name with a number.
 pub(crate) fn name_of(number: u32) -> Option<FieldName>
-    ensures told { IfSome result (λ n. field_number n ≡ number) }
+    ensures reported { IfSome result (λ n. field_number n ≡ number) }
     ensures some { IsSome result ↔ ((1 ≤ number) × (number ≤ 31)) }
 {
     let name = match number {
@@ -57,14 +57,14 @@ pub(crate) fn name_of(number: u32) -> Option<FieldName>
 
 /// Writes the name of the field with a number, in ASCII and with no NUL after it, to the buffer.
 #[unsafe(no_mangle)]
-pub extern "C" fn ndef_field_name(name: u32, room: &mut [u8], count: &mut usize) -> u32
+pub extern "C" fn ndef_field_name(name: u32, buffer: &mut [u8], count: &mut usize) -> u32
     ensures bad { result ≡ BAD_ARGUMENT ↔ ((name ≡ 0) ⊎ (31 < name)) }
-    ensures kept { result ≡ BAD_ARGUMENT → (room.new ≡ room.old) × (count.new ≡ count.old) }
-    ensures text { result ≢ BAD_ARGUMENT → GivesFieldName name room.old room.new count.new result }
+    ensures kept { result ≡ BAD_ARGUMENT → (buffer.new ≡ buffer.old) × (count.new ≡ count.old) }
+    ensures text { result ≢ BAD_ARGUMENT → GivesFieldName name buffer.old buffer.new count.new result }
     ensures short { result ≢ BAD_ARGUMENT → count.new ≤ 31 }
 {
     let Some(name) = name_of(name) else {
         return BAD_ARGUMENT;
     };
-    give(name.text(), room, count)
+    give(name.text(), buffer, count)
 }

@@ -1,9 +1,9 @@
-//! In which field each byte of a message stands.
+//! The field of each byte of a message.
 ghost use Rattle.std.specs.Prelude.{◌≡◌, ◌≢◌, ℕ, ◌+◌, ◌<◌, ◌≤◌, ◌^◌, ◌↔◌, ◌⊎◌, List, length, map, take, IfNone, IfSome, IsSome};
 ghost use Rattle.ndef_format.specs.NestedReasons.{TypedReason};
 ghost use Rattle.ndef_format.specs.Payloads.{IsTypedPayload};
 ghost use Rattle.ndef_fields.specs.FieldLaws.{AreGapless};
-ghost use Rattle.ndef_fields.specs.Tellings.{AreFieldsBefore, IsMessageFront};
+ghost use Rattle.ndef_fields.specs.Reports.{AreFieldsBefore, IsMessageFront};
 ghost use Rattle.ndef_fields.specs.declared.field.Field.{Field as Part};
 ghost use Rattle.ndef_c.specs.Arrays.{set_over};
 ghost use Rattle.ndef_c.specs.Checks.{ChecksTo, limits_of};
@@ -12,10 +12,10 @@ ghost use Rattle.ndef_c.specs.Fields.{GivesEach, GivesFieldAt, GivesFields, Give
 use crate::checking::{NdefChecked, check_in};
 use crate::field_names::number_of;
 use crate::limits::{NdefLimits, limits_of};
-use crate::status::{BAD_ARGUMENT, END, NO_ROOM, OK};
+use crate::status::{BAD_ARGUMENT, BUFFER_TOO_SMALL, END, OK};
 use ndef_fields::{Field, Fields, fields_before, fields_before_are_exact};
 use ndef_nest::Typed;
-use ndef_piece::heads_are_apart;
+use ndef_piece::heads_are_unambiguous;
 use ndef_value::Limits;
 
 /// A field of a message: at least one byte.
@@ -44,7 +44,7 @@ fn numbers_of(field: &Field) -> NdefField
     }
 }
 
-/// The limits of these numbers, if payloads are looked into.
+/// Returns the limits of these numbers, if payloads are validated.
 pub(crate) fn typed_limits(numbers: &NdefLimits) -> Option<Limits>
     ensures some { IsSome result ↔ MayTellFields numbers.now }
     ensures limits { IfSome result (λ r. r ≡ limits_of numbers.now) }
@@ -56,14 +56,14 @@ pub(crate) fn typed_limits(numbers: &NdefLimits) -> Option<Limits>
 }
 
 /// The bytes of the message, or those before the refused byte, and what a check answers.
-fn checked_front<'a>(bytes: &'a [u8], limits: Limits, why: &mut NdefChecked) -> (&'a [u8], u32)
-    ensures checks { ChecksTo IsTypedPayload TypedReason limits bytes.now result.1 why.new }
-    ensures front { result.0.now ≡ take why.new.place bytes.now }
+fn checked_front<'a>(bytes: &'a [u8], limits: Limits, refusal: &mut NdefChecked) -> (&'a [u8], u32)
+    ensures checks { ChecksTo IsTypedPayload TypedReason limits bytes.now result.1 refusal.new }
+    ensures front { result.0.now ≡ take refusal.new.place bytes.now }
     ensures viable { IsMessageFront result.0.now }
-    ensures size { length result.0.now ≡ why.new.place }
+    ensures size { length result.0.now ≡ refusal.new.place }
 {
-    let checked = check_in::<Typed>(bytes, limits, why);
-    let (front, _rest) = bytes.split_at(why.place as usize);
+    let checked = check_in::<Typed>(bytes, limits, refusal);
+    let (front, _rest) = bytes.split_at(refusal.place as usize);
     (front, checked)
 }
 
@@ -93,20 +93,20 @@ pub(crate) fn write_fields(fields: Fields<'_>, array: &mut [NdefField]) -> usize
     index
 }
 
-/// Writes the fields of these bytes, a front of a message, where the array has room for them, and sets `count` to their
-/// number. Returns what a check answered, or that there is no room.
+/// Writes the fields of these bytes, a front of a message, if the array is large enough, and sets `count` to their
+/// number. Returns the status of the check, or that the array is too small.
 fn give_fields(front: &[u8], checked: u32, array: &mut [NdefField], count: &mut usize) -> u32
     requires { IsMessageFront front.now }
-    ensures known { (result ≡ NO_ROOM) ⊎ (result ≡ checked) }
-    ensures fields { (told : List Part) × AreFieldsBefore front.now told
-        × GivesEach told checked array.old array.new count.new result }
+    ensures known { (result ≡ BUFFER_TOO_SMALL) ⊎ (result ≡ checked) }
+    ensures fields { (reported : List Part) × AreFieldsBefore front.now reported
+        × GivesEach reported checked array.old array.new count.new result }
 {
     fields_before_are_exact();
     if array.len() < front.len() {
         // A field has at least one byte. Only here may there be more than the array takes.
         *count = count_of(fields_before(front));
         if array.len() < *count {
-            return NO_ROOM;
+            return BUFFER_TOO_SMALL;
         }
     }
     *count = write_fields(fields_before(front), array);
@@ -121,20 +121,20 @@ pub extern "C" fn ndef_fields(
     limits: &NdefLimits,
     fields: &mut [NdefField],
     count: &mut usize,
-    why: &mut NdefChecked,
+    refusal: &mut NdefChecked,
 ) -> u32
     ensures bad { result ≡ BAD_ARGUMENT ↔ ¬ MayTellFields limits.now }
     ensures kept { result ≡ BAD_ARGUMENT
-        → (fields.new ≡ fields.old) × (count.new ≡ count.old) × (why.new ≡ why.old) }
+        → (fields.new ≡ fields.old) × (count.new ≡ count.old) × (refusal.new ≡ refusal.old) }
     ensures fields { result ≢ BAD_ARGUMENT
-        → GivesFields (limits_of limits.now) bytes.now fields.old fields.new count.new result why.new }
+        → GivesFields (limits_of limits.now) bytes.now fields.old fields.new count.new result refusal.new }
 {
     // For the proof alone.
-    heads_are_apart();
+    heads_are_unambiguous();
     let Some(limits) = typed_limits(limits) else {
         return BAD_ARGUMENT;
     };
-    let (front, checked) = checked_front(bytes, limits, why);
+    let (front, checked) = checked_front(bytes, limits, refusal);
     give_fields(front, checked, fields, count)
 }
 
@@ -152,13 +152,13 @@ fn field_with(fields: Fields<'_>, place: usize) -> Option<Field>
     None
 }
 
-/// Gives the field with the byte at a place of these bytes, a front of a message. Returns `behind` where there is none.
-fn give_field(front: &[u8], place: usize, behind: u32, out: &mut NdefField) -> u32
+/// Gives the field with the byte at a place of these bytes, a front of a message. Returns `following` without one.
+fn give_field(front: &[u8], place: usize, following: u32, out: &mut NdefField) -> u32
     requires { IsMessageFront front.now }
-    ensures known { (result ≡ OK) ⊎ (result ≡ behind) }
-    ensures within { (told : List Part) × AreFieldsBefore front.now told
-        × (place < length front.now → (result ≡ OK) × GivesWith told place out.new) }
-    ensures behind { length front.now ≤ place → (result ≡ behind) × (out.new ≡ out.old) }
+    ensures known { (result ≡ OK) ⊎ (result ≡ following) }
+    ensures within { (reported : List Part) × AreFieldsBefore front.now reported
+        × (place < length front.now → (result ≡ OK) × GivesWith reported place out.new) }
+    ensures following { length front.now ≤ place → (result ≡ following) × (out.new ≡ out.old) }
 {
     fields_before_are_exact();
     match field_with(fields_before(front), place) {
@@ -166,12 +166,12 @@ fn give_field(front: &[u8], place: usize, behind: u32, out: &mut NdefField) -> u
             *out = numbers_of(&field);
             OK
         }
-        None => behind,
+        None => following,
     }
 }
 
-/// What is answered after the last field, by what a check answered.
-fn answer_behind(checked: u32) -> u32
+/// Returns the status after the last field, from the status of the check.
+fn answer_after(checked: u32) -> u32
     ensures ended { checked ≡ OK → result ≡ END }
     ensures refused { checked ≢ OK → result ≡ checked }
 {
@@ -186,20 +186,20 @@ pub extern "C" fn ndef_field_at(
     limits: &NdefLimits,
     place: usize,
     out: &mut NdefField,
-    why: &mut NdefChecked,
+    refusal: &mut NdefChecked,
 ) -> u32
     ensures bad { result ≡ BAD_ARGUMENT ↔ ¬ MayTellFields limits.now }
-    ensures kept { result ≡ BAD_ARGUMENT → (out.new ≡ out.old) × (why.new ≡ why.old) }
+    ensures kept { result ≡ BAD_ARGUMENT → (out.new ≡ out.old) × (refusal.new ≡ refusal.old) }
     ensures field { result ≢ BAD_ARGUMENT
-        → GivesFieldAt (limits_of limits.now) bytes.now place out.old out.new result why.new }
+        → GivesFieldAt (limits_of limits.now) bytes.now place out.old out.new result refusal.new }
 {
     // For the proof alone.
-    heads_are_apart();
+    heads_are_unambiguous();
     let Some(limits) = typed_limits(limits) else {
         return BAD_ARGUMENT;
     };
-    let (front, checked) = checked_front(bytes, limits, why);
-    give_field(front, place, answer_behind(checked), out)
+    let (front, checked) = checked_front(bytes, limits, refusal);
+    give_field(front, place, answer_after(checked), out)
 }
 
 /// Steps to the field after this one, of which the length 0 and the offset 0 are before the first.
@@ -208,14 +208,14 @@ pub extern "C" fn ndef_next_field(
     bytes: &[u8],
     limits: &NdefLimits,
     field: &mut NdefField,
-    why: &mut NdefChecked,
+    refusal: &mut NdefChecked,
 ) -> u32
     ensures bad { result ≡ BAD_ARGUMENT ↔ ¬ MayTellFields limits.now }
-    ensures kept { result ≡ BAD_ARGUMENT → (field.new ≡ field.old) × (why.new ≡ why.old) }
+    ensures kept { result ≡ BAD_ARGUMENT → (field.new ≡ field.old) × (refusal.new ≡ refusal.old) }
     ensures next { result ≢ BAD_ARGUMENT
         → GivesFieldAt (limits_of limits.now) bytes.now (field.old.at + field.old.length)
-        field.old field.new result why.new }
+        field.old field.new result refusal.new }
 {
     let place = field.at.saturating_add(field.length);
-    ndef_field_at(bytes, limits, place, field, why)
+    ndef_field_at(bytes, limits, place, field, refusal)
 }

@@ -8,40 +8,40 @@ use crate::record::{NdefRecord, id_in, type_in};
 use crate::status::{BAD_ARGUMENT, END, OK};
 use crate::walk::Walk;
 
-/// What a record is to have.
+/// The property by which a record is found.
 #[derive(Clone, Copy)]
-enum Wanted<'a> {
+enum Expected<'a> {
     /// A type name format, as a number, and a type.
     Kind(u32, &'a [u8]),
     /// An id that isn't empty.
     Id(&'a [u8]),
 }
 
-/// Whether a record has what is searched for.
-fn has(bytes: &[u8], found: &NdefRecord, wanted: &Wanted<'_>) -> bool
+/// Whether a record has the expected property.
+fn has(bytes: &[u8], found: &NdefRecord, expected: &Expected<'_>) -> bool
     requires { (at : ℕ) × IsRecordAt bytes.now at found.now }
     ensures { (at : ℕ) → (r : IsRecordAt bytes.now at found.now)
-        → (IsTrue result ↔ Has wanted.now (run_record r.run)) }
+        → (IsTrue result ↔ Has expected.now (run_record r.run)) }
 {
-    match *wanted {
-        Wanted::Kind(tnf, kind) => found.tnf == tnf && type_in(bytes, found) == kind,
-        Wanted::Id(id) => !id.is_empty() && id_in(bytes, found) == id,
+    match *expected {
+        Expected::Kind(tnf, kind) => found.tnf == tnf && type_in(bytes, found) == kind,
+        Expected::Id(id) => !id.is_empty() && id_in(bytes, found) == id,
     }
 }
 
-/// Gives the first record from a place on that has what is searched for.
-fn find(bytes: &[u8], at: usize, wanted: &Wanted<'_>, out: &mut NdefRecord) -> u32
+/// Gives the first record from a place on that has the expected property.
+fn find(bytes: &[u8], at: usize, expected: &Expected<'_>, out: &mut NdefRecord) -> u32
     ensures known { (result ≡ OK) ⊎ (result ≡ END) ⊎ (result ≡ BAD_ARGUMENT) }
-    ensures found { result ≡ OK → FindsAt (Has wanted.now) bytes.now at out.new }
-    ensures end { result ≡ END → (at ≡ length bytes.now) ⊎ HasNone (Has wanted.now) bytes.now at }
-    ensures bad { result ≡ BAD_ARGUMENT → (at ≢ length bytes.now) × BreaksOff (Has wanted.now) bytes.now at }
+    ensures found { result ≡ OK → FindsAt (Has expected.now) bytes.now at out.new }
+    ensures end { result ≡ END → (at ≡ length bytes.now) ⊎ HasNone (Has expected.now) bytes.now at }
+    ensures bad { result ≡ BAD_ARGUMENT → (at ≢ length bytes.now) × BreaksOff (Has expected.now) bytes.now at }
     ensures kept { result ≢ OK → out.new ≡ out.old }
 {
     if at == bytes.len() {
         return END;
     }
     for found in Walk::from(bytes, at) {
-        if has(bytes, &found, wanted) {
+        if has(bytes, &found, expected) {
             *out = found;
             return OK;
         }
@@ -68,7 +68,7 @@ pub extern "C" fn ndef_find_type(
     ensures bad { result ≡ BAD_ARGUMENT → (at ≢ length bytes.now) × BreaksOff (IsOfType tnf kind.now) bytes.now at }
     ensures kept { result ≢ OK → out.new ≡ out.old }
 {
-    find(bytes, at, &Wanted::Kind(tnf, kind), out)
+    find(bytes, at, &Expected::Kind(tnf, kind), out)
 }
 
 /// Gives the first record with an id (NDEF 1.0, ID) from the one at an offset on, up to the one that
@@ -81,5 +81,5 @@ pub extern "C" fn ndef_find_id(bytes: &[u8], at: usize, id: &[u8], out: &mut Nde
     ensures bad { result ≡ BAD_ARGUMENT → (at ≢ length bytes.now) × BreaksOff (HasIdOf id.now) bytes.now at }
     ensures kept { result ≢ OK → out.new ≡ out.old }
 {
-    find(bytes, at, &Wanted::Id(id), out)
+    find(bytes, at, &Expected::Id(id), out)
 }

@@ -39,7 +39,7 @@ pub(crate) fn version_of(payload: &[u8]) -> (u32, u32)
 }
 
 /// The message of a handover, after its version octet.
-pub(crate) fn behind_version(payload: &[u8]) -> &[u8]
+pub(crate) fn after_version(payload: &[u8]) -> &[u8]
     requires { 0 < length payload.now }
     ensures { result.now ≡ drop 1 payload.now }
 {

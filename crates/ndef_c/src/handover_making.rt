@@ -1,19 +1,19 @@
-//! Writes the payloads of handover requests and selects from what they are made of (Connection Handover 1.2).
+//! Writes the payloads of handover requests and selects from their parts (Connection Handover 1.2).
 ghost use Rattle.std.specs.Prelude.{◌≡◌, ◌≢◌, ◌+◌, ◌<◌, ◌↔◌, length, IfNone, IfSome};
 ghost use Rattle.ndef_c.specs.HandoverMaking.{GivesRequest, GivesSelect, MayBeErrorSaid, MayBeRequest, MayBeSelect, carriers_asked, error_items, select_asked};
-ghost use Rattle.ndef_c.specs.Series.{AreSeries};
+ghost use Rattle.ndef_c.specs.RecordList.{AreSeries};
 
 use crate::content::Content;
 use crate::error_writing::may_be_error;
 use crate::handover_parts::NdefAlternativeWriting;
 use crate::part::NdefPart;
 use crate::poster_parts::{known_made, part_in};
-use crate::series::Series;
+use crate::record_list::RecordList;
 use crate::series_writing::give_message;
 use crate::status::BAD_ARGUMENT;
 use ndef_lang::Kind;
 
-/// What a handover select that is written says, but for its alternative carriers.
+/// The parameters of a handover select that is written, except its alternative carriers.
 #[repr(C)]
 #[derive(Clone, Copy, Drop)]
 pub struct NdefSelectWriting {
@@ -44,15 +44,15 @@ pub extern "C" fn ndef_write_request<'a>(
     bytes: &'a [u8],
     references: &'a [NdefPart],
     alternatives: &'a [NdefAlternativeWriting],
-    room: &mut [u8],
+    buffer: &mut [u8],
     count: &mut usize,
 ) -> u32
     ensures bad { result ≡ BAD_ARGUMENT
         ↔ ¬ MayBeRequest minor collision (carriers_asked bytes.now references.now alternatives.now) }
-    ensures kept { result ≡ BAD_ARGUMENT → (room.new ≡ room.old) × (count.new ≡ count.old) }
+    ensures kept { result ≡ BAD_ARGUMENT → (buffer.new ≡ buffer.old) × (count.new ≡ count.old) }
     ensures request { result ≢ BAD_ARGUMENT
         → GivesRequest minor collision (carriers_asked bytes.now references.now alternatives.now)
-        room.old room.new count.new result }
+        buffer.old buffer.new count.new result }
 {
     if minor > 15 {
         return BAD_ARGUMENT;
@@ -66,24 +66,24 @@ pub extern "C" fn ndef_write_request<'a>(
         unreachable!()
     };
     let several = [
-        Series::One { made },
-        Series::Alternatives {
+        RecordList::One { made },
+        RecordList::Alternatives {
             bytes,
             references,
             alternatives,
         },
     ];
-    give_message(&[version_octet(minor)], &several, room, count)
+    give_message(&[version_octet(minor)], &several, buffer, count)
 }
 
-/// The record of the error where it is asked for.
-fn error_series<'a>(how: &NdefSelectWriting, bytes: &'a [u8]) -> Option<Series<'a>>
+/// Returns the record of the error, if one is requested.
+fn error_series<'a>(how: &NdefSelectWriting, bytes: &'a [u8]) -> Option<RecordList<'a>>
     ensures none { IfNone result (¬ MayBeErrorSaid how.now bytes.now) }
     ensures may { IfSome result (λ _. MayBeErrorSaid how.now bytes.now) }
     ensures some { IfSome result (AreSeries (error_items how.now bytes.now)) }
 {
     match how.has_error {
-        0 => Some(Series::Nothing),
+        0 => Some(RecordList::Nothing),
         1 => {
             let detail = part_in(bytes, &how.detail)?;
             if !may_be_error(how.reason, detail) {
@@ -91,7 +91,7 @@ fn error_series<'a>(how: &NdefSelectWriting, bytes: &'a [u8]) -> Option<Series<'
             }
             let reason = how.reason as u8;
             let made = known_made(Kind::Error, &Content::Error { reason, detail })?;
-            Some(Series::One { made })
+            Some(RecordList::One { made })
         }
         _ => None,
     }
@@ -105,15 +105,15 @@ pub extern "C" fn ndef_write_select<'a>(
     bytes: &'a [u8],
     references: &'a [NdefPart],
     alternatives: &'a [NdefAlternativeWriting],
-    room: &mut [u8],
+    buffer: &mut [u8],
     count: &mut usize,
 ) -> u32
     ensures bad { result ≡ BAD_ARGUMENT
         ↔ ¬ MayBeSelect (select_asked how.now (carriers_asked bytes.now references.now alternatives.now)) }
-    ensures kept { result ≡ BAD_ARGUMENT → (room.new ≡ room.old) × (count.new ≡ count.old) }
+    ensures kept { result ≡ BAD_ARGUMENT → (buffer.new ≡ buffer.old) × (count.new ≡ count.old) }
     ensures select { result ≢ BAD_ARGUMENT
         → GivesSelect (select_asked how.now (carriers_asked bytes.now references.now alternatives.now))
-        room.old room.new count.new result }
+        buffer.old buffer.new count.new result }
 {
     if how.minor > 15 {
         return BAD_ARGUMENT;
@@ -121,10 +121,15 @@ pub extern "C" fn ndef_write_select<'a>(
     let Some(error) = error_series(how, bytes) else {
         return BAD_ARGUMENT;
     };
-    let carriers = Series::Alternatives {
+    let carriers = RecordList::Alternatives {
         bytes,
         references,
         alternatives,
     };
-    give_message(&[version_octet(how.minor)], &[carriers, error], room, count)
+    give_message(
+        &[version_octet(how.minor)],
+        &[carriers, error],
+        buffer,
+        count,
+    )
 }

@@ -1,10 +1,10 @@
 //! The alternative carriers and the error of a handover, as parts of some bytes (Connection Handover 1.2).
 ghost use Rattle.std.specs.Prelude.{◌≡◌, ◌+◌, ◌≤◌, ◌<◌, length, IfNone, IfSome};
 ghost use Rattle.ndef_c.specs.HandoverParts.{MayBeCarried, alternative_item, own_references};
-ghost use Rattle.ndef_c.specs.Made.{IsMade, made_item};
+ghost use Rattle.ndef_c.specs.PendingRecord.{IsMade, made_item};
 
 use crate::alternative_writing::alternative_content;
-use crate::making::Made;
+use crate::making::PendingRecord;
 use crate::part::NdefPart;
 use crate::poster_parts::known_made;
 use ndef_lang::Kind;
@@ -13,9 +13,9 @@ use ndef_lang::Kind;
 #[repr(C)]
 #[derive(Clone, Copy, Drop)]
 pub struct NdefAlternativeWriting {
-    /// Which of the references is the first of its own, the carrier data reference.
+    /// The index of the first of its references, the carrier data reference.
     pub first: usize,
-    /// How many are its own, 1 to 256.
+    /// The number of its references, 1 to 256.
     pub references: usize,
     /// The power state of the carrier, 0 to 3.
     pub power: u32,
@@ -42,7 +42,7 @@ pub(crate) fn alternative_made<'a>(
     bytes: &'a [u8],
     references: &'a [NdefPart],
     alternative: &NdefAlternativeWriting,
-) -> Option<Made<'a>>
+) -> Option<PendingRecord<'a>>
     ensures none { IfNone result (¬ MayBeCarried bytes.now references.now alternative.now) }
     ensures may { IfSome result (λ _. MayBeCarried bytes.now references.now alternative.now) }
     ensures made { IfSome result IsMade }

@@ -3,9 +3,9 @@ ghost use Rattle.std.specs.Prelude.{◌≡◌, ◌+◌, ◌<◌, ◌^◌, ◌↔
 ghost use Rattle.ndef_format.specs.declared.profile.Profile.TheVariants.{Strict};
 ghost use Rattle.ndef_value.specs.declared.limits.TheConstants.{MOST_RECORDS};
 ghost use Rattle.ndef_c.specs.HandoverWrites.{MayBeHandover, version_of};
-ghost use Rattle.ndef_c.specs.Rooms.{Gives};
+ghost use Rattle.ndef_c.specs.Buffers.{Gives};
 
-use crate::room::give_parts;
+use crate::buffer::give_parts;
 use crate::status::BAD_ARGUMENT;
 use ndef_lang::{Kind, Language};
 use ndef_nest::Nest;
@@ -17,17 +17,17 @@ pub const REQUEST: u32 = 0;
 pub const SELECT: u32 = 1;
 
 /// Whether an octet and the bytes after it are a payload of the kind.
-fn is_payload<L: Language>(kind: Kind, octet: u8, behind: &[u8]) -> bool
-    requires { 1 + length behind.now < 2 ^ 32 }
-    ensures { IsTrue result ↔ L.payloads kind MOST_RECORDS Strict (octet ∷ behind.now) }
+fn is_payload<L: Language>(kind: Kind, octet: u8, following: &[u8]) -> bool
+    requires { 1 + length following.now < 2 ^ 32 }
+    ensures { IsTrue result ↔ L.payloads kind MOST_RECORDS Strict (octet ∷ following.now) }
 {
     let mut state = L::start(kind, MOST_RECORDS, Profile::Strict);
     state.step(octet);
-    let length = behind.len() as u64;
+    let length = following.len() as u64;
     if !state.fits(length, length) {
         return false;
     }
-    state.step_all(behind, length, length) == behind.len()
+    state.step_all(following, length, length) == following.len()
 }
 
 /// Writes the payload of a handover record, a version octet and the bytes of a message, to the buffer.
@@ -37,13 +37,13 @@ pub extern "C" fn ndef_write_handover(
     major: u32,
     minor: u32,
     message: &[u8],
-    room: &mut [u8],
+    buffer: &mut [u8],
     count: &mut usize,
 ) -> u32
     ensures bad { result ≡ BAD_ARGUMENT ↔ ¬ MayBeHandover number major minor message.now }
-    ensures kept { result ≡ BAD_ARGUMENT → (room.new ≡ room.old) × (count.new ≡ count.old) }
+    ensures kept { result ≡ BAD_ARGUMENT → (buffer.new ≡ buffer.old) × (count.new ≡ count.old) }
     ensures payload { MayBeHandover number major minor message.now
-        → Gives (version_of major minor ∷ message.now) room.old room.new count.new result }
+        → Gives (version_of major minor ∷ message.now) buffer.old buffer.new count.new result }
 {
     let kind = match number {
         REQUEST => Kind::Request,
@@ -57,5 +57,5 @@ pub extern "C" fn ndef_write_handover(
     if !is_payload::<Nest>(kind, version, message) {
         return BAD_ARGUMENT;
     }
-    give_parts(&[], &[version], message, room, count)
+    give_parts(&[], &[version], message, buffer, count)
 }

@@ -1,16 +1,16 @@
-//! What may help where bytes are refused, in sentences and by numbers.
+//! Hints for bytes that are refused, in sentences and by numbers.
 ghost use Rattle.std.specs.Prelude.{◌≡◌, ◌≢◌, ◌≤◌, ◌⊎◌, ◌↔◌, IfNone, IfSome};
-ghost use Rattle.ndef_advice.specs.Hints.{BeginsWithMessage};
+ghost use Rattle.ndef_diagnostics.specs.Hints.{BeginsWithMessage};
 ghost use Rattle.ndef_c.specs.Checks.{limits_of};
 ghost use Rattle.ndef_c.specs.Fields.{MayTellFields};
 ghost use Rattle.ndef_c.specs.Hints.{FindsHint, GivesHint, HasNoHint, IsHinted, dump_number, hint_number, tag_number};
 
+use crate::buffer::give;
 use crate::fields::typed_limits;
 use crate::limits::NdefLimits;
-use crate::room::give;
-use crate::status::{BAD_ARGUMENT, END, NO_ROOM, OK};
-use crate::why::refusal_of;
-use ndef_advice::{DumpText, Hint, Wrapping, hint_at};
+use crate::refusal_message::refusal_of;
+use crate::status::{BAD_ARGUMENT, BUFFER_TOO_SMALL, END, OK};
+use ndef_diagnostics::{DumpText, Hint, Wrapping, hint_at};
 use ndef_value::Limits;
 
 /// An NDEF message TLV of a tag has bytes for a message, or none.
@@ -106,16 +106,16 @@ fn hint_of(bytes: &[u8], limits: Limits) -> Option<Hint>
     }
 }
 
-/// Writes what may help where the bytes are refused to the room.
-fn give_hint(bytes: &[u8], limits: Limits, room: &mut [u8], count: &mut usize) -> u32
-    ensures known { (result ≡ OK) ⊎ (result ≡ NO_ROOM) ⊎ (result ≡ END) }
-    ensures hint { GivesHint limits bytes.now room.old room.new count.old count.new result }
+/// Writes what may help where the bytes are refused to the buffer.
+fn give_hint(bytes: &[u8], limits: Limits, buffer: &mut [u8], count: &mut usize) -> u32
+    ensures known { (result ≡ OK) ⊎ (result ≡ BUFFER_TOO_SMALL) ⊎ (result ≡ END) }
+    ensures hint { GivesHint limits bytes.now buffer.old buffer.new count.old count.new result }
     ensures short { result ≢ END → count.new ≤ 192 }
 {
     match hint_of(bytes, limits) {
         Some(hint) => {
             let sentence = hint.sentence();
-            give(sentence.as_slice(), room, count)
+            give(sentence.as_slice(), buffer, count)
         }
         None => END,
     }
@@ -127,19 +127,19 @@ fn give_hint(bytes: &[u8], limits: Limits, room: &mut [u8], count: &mut usize) -
 pub extern "C" fn ndef_hint(
     bytes: &[u8],
     limits: &NdefLimits,
-    room: &mut [u8],
+    buffer: &mut [u8],
     count: &mut usize,
 ) -> u32
     ensures bad { result ≡ BAD_ARGUMENT ↔ ¬ MayTellFields limits.now }
-    ensures kept { result ≡ BAD_ARGUMENT → (room.new ≡ room.old) × (count.new ≡ count.old) }
+    ensures kept { result ≡ BAD_ARGUMENT → (buffer.new ≡ buffer.old) × (count.new ≡ count.old) }
     ensures hint { result ≢ BAD_ARGUMENT
-        → GivesHint (limits_of limits.now) bytes.now room.old room.new count.old count.new result }
-    ensures short { (result ≡ OK) ⊎ (result ≡ NO_ROOM) → count.new ≤ 192 }
+        → GivesHint (limits_of limits.now) bytes.now buffer.old buffer.new count.old count.new result }
+    ensures short { (result ≡ OK) ⊎ (result ≡ BUFFER_TOO_SMALL) → count.new ≤ 192 }
 {
     let Some(limits) = typed_limits(limits) else {
         return BAD_ARGUMENT;
     };
-    give_hint(bytes, limits, room, count)
+    give_hint(bytes, limits, buffer, count)
 }
 
 /// Says by numbers what may help where the bytes are refused: which hint it is, and of one on the memory of a tag where

@@ -7,8 +7,8 @@ ghost use Rattle.ndef_c.specs.Posters.{HasPosterRecords};
 ghost use Rattle.ndef_c.specs.Titles.{IsPosterPayload};
 
 use crate::part::NdefPart;
+use crate::query::{Expected, RecordQuery, give_all};
 use crate::record::NdefRecord;
-use crate::sought::{Sought, Wanted, give_all};
 use crate::status::BAD_ARGUMENT;
 use crate::titles::is_poster;
 use ndef_value::Tnf;
@@ -29,10 +29,10 @@ struct Icons<'a> {
     payload: &'a [u8],
 }
 
-impl<'a> Wanted for Icons<'a> {
-    ghost wanted = { λ tnf kind. is_media tnf };
+impl<'a> Expected for Icons<'a> {
+    ghost expected = { λ tnf kind. is_media tnf };
 
-    fn is_wanted(tnf: Tnf, _kind: &[u8]) -> bool
+    fn is_expected(tnf: Tnf, _kind: &[u8]) -> bool
         ensures { result ≡ is_media tnf }
     {
         match tnf {
@@ -42,7 +42,7 @@ impl<'a> Wanted for Icons<'a> {
     }
 }
 
-impl<'a> Sought for Icons<'a> {
+impl<'a> RecordQuery for Icons<'a> {
     type Given = NdefIcon;
 
     ghost octets = { λ icons. icons.payload.now };
@@ -72,7 +72,7 @@ impl<'a> Sought for Icons<'a> {
     }
 }
 
-/// Gives the place of each icon, where there is room for them, and their number.
+/// Writes the place of each icon, if the array is large enough, and their number.
 fn give_icons(payload: &[u8], array: &mut [NdefIcon], count: &mut usize) -> u32
     requires { IsPosterPayload payload.now }
     ensures { GivesIcons payload.now array.old array.new count.new result }

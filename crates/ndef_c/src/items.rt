@@ -13,15 +13,15 @@ ghost use Rattle.ndef_c.specs.Checks.{ChecksPayloads, LeavesPayloads, TakesMessa
 ghost use Rattle.ndef_c.specs.Items.{AreItems, AreTyped, GivesItems, HasValue, IsItemAt, IsTextValue, IsUriValue, IsValueOf, MayHaveItems, MayHaveValue, Repeats, no_value, value_of};
 ghost use Rattle.ndef_c.specs.Kinds.{kind_number};
 ghost use Rattle.ndef_c.specs.Walks.{IsRecordAt};
-ghost use Rattle.ndef_c.specs.declared.items.NdefItem.{NdefItem as Told};
+ghost use Rattle.ndef_c.specs.declared.items.NdefItem.{NdefItem as Reported};
 
 use crate::checking::{NdefChecked, check_in};
 use crate::kinds::ndef_kind;
 use crate::limits::{NdefLimits, limits_of};
 use crate::record::{NdefRecord, record_at};
-use crate::status::{BAD_ARGUMENT, NO_ROOM, OK};
+use crate::status::{BAD_ARGUMENT, BUFFER_TOO_SMALL, OK};
 use crate::text::text_at;
-use crate::uri_view::uri_at;
+use crate::uri_parts::uri_at;
 use ndef_lang::{Kind, Opaque, RecordLanguage};
 use ndef_nest::Typed;
 use ndef_value::Limits;
@@ -37,7 +37,7 @@ pub struct NdefItem {
     pub end: u32,
     /// The type name format, 0 to 5.
     pub tnf: u32,
-    /// The number of its kind, which `ndef_kind` says of a record in a message of its own.
+    /// The number of its kind, as `ndef_kind` gives it for a record in a message of its own.
     pub kind: u32,
     /// Where its type begins.
     pub type_at: u32,
@@ -50,7 +50,7 @@ pub struct NdefItem {
     /// The bytes of its payload, the chunks joined.
     pub payload_length: u32,
     /// The number of its chunks.
-    pub pieces: u32,
+    pub chunks: u32,
     /// 1 for a text in UTF-8, 2 for one in UTF-16, 3 for a URI. 0 for any other record, for one in several chunks, and
     /// where no payload was looked into: then the members after it are 0.
     pub form: u32,
@@ -66,7 +66,7 @@ pub struct NdefItem {
     pub text_length: u32,
 }
 
-/// How the value of a record lies in the bytes: the last six members of its item.
+/// The form and the place of the value of a record: the last six members of its item.
 #[derive(Clone, Copy)]
 struct Value {
     form: u32,
@@ -148,9 +148,9 @@ fn value_at(bytes: &[u8], found: &NdefRecord, kind: u32, looks: bool) -> Value
         × (looks ≡ true → MayHaveValue kind (run_record r.run).payload) }
     ensures { (profile : Profile) (at : ℕ) → (r : IsRecordAt bytes.now at found.now)
         → (looks ≡ true → kind ≡ kind_number kinds.Uri → IsUri profile (run_record r.run).payload)
-        → HasValue looks profile kind found.now.payload_at found.now.pieces (run_record r.run).payload result }
+        → HasValue looks profile kind found.now.payload_at found.now.chunks (run_record r.run).payload result }
 {
-    if !looks || found.pieces != 1 {
+    if !looks || found.chunks != 1 {
         return no_value();
     }
     let (_before, from) = bytes.split_at(found.payload_at);
@@ -165,7 +165,7 @@ fn in_words(found: &NdefRecord, kind: u32, value: &Value) -> NdefItem
     requires id { found.now.id_length < 2 ^ 32 }
     requires payload { found.now.payload_at < 2 ^ 32 }
     requires joined { found.now.payload_length < 2 ^ 32 }
-    requires pieces { found.now.pieces < 2 ^ 32 }
+    requires chunks { found.now.chunks < 2 ^ 32 }
     ensures repeats { Repeats found.now result }
     ensures kind { result.kind ≡ kind }
     ensures value { value_of result ≡ value.now }
@@ -180,7 +180,7 @@ fn in_words(found: &NdefRecord, kind: u32, value: &Value) -> NdefItem
         id_length: found.id_length as u32,
         payload_at: found.payload_at as u32,
         payload_length: found.payload_length as u32,
-        pieces: found.pieces as u32,
+        chunks: found.chunks as u32,
         form: value.form,
         number: value.number,
         language_at: value.language_at,
@@ -215,10 +215,11 @@ fn tell_items<L: RecordLanguage>(
     requires short { length bytes.now < 2 ^ 32 }
     requires typed { looks ≡ true → AreTyped L.payloads }
     requires message { TakesMessage L.payloads L.reasons limits bytes.now checked.now }
-    requires room { checked.now.records ≤ length items.old }
+    requires buffer { checked.now.records ≤ length items.old }
     ensures { (t : TakesMessage L.payloads L.reasons limits bytes.now checked.now)
-        × (told : List Told) × AreItems looks limits.profile bytes.now 0 t.viewed.runs told checked.now.place
-        × (length told ≡ length t.viewed.runs) × (items.new ≡ set_over told items.old) }
+        × (reported : List Reported) × AreItems looks limits.profile bytes.now 0 t.viewed.runs reported
+        checked.now.place
+        × (length reported ≡ length t.viewed.runs) × (items.new ≡ set_over reported items.old) }
 {
     let records = checked.records as usize;
     let mut at = 0;
@@ -233,7 +234,7 @@ fn tell_items<L: RecordLanguage>(
     }
 }
 
-/// Checks with the payloads of a language, and gives the records where there is room for them.
+/// Checks with the payloads of a language, and writes the records if the array is large enough.
 fn give_items<L: RecordLanguage>(
     bytes: &[u8],
     limits: Limits,
@@ -252,7 +253,7 @@ fn give_items<L: RecordLanguage>(
         return checked;
     }
     if items.len() < out.records as usize {
-        return NO_ROOM;
+        return BUFFER_TOO_SMALL;
     }
     tell_items::<L>(bytes, limits, looks, out, items);
     OK
@@ -264,7 +265,7 @@ fn give_items<L: RecordLanguage>(
 /// form. A call with no items says how many there are.
 ///
 /// - `OK`: the first `out->records` items are the records of the message.
-/// - `NO_ROOM`: the message is accepted, and there are fewer than `out->records` items; they are unchanged.
+/// - `BUFFER_TOO_SMALL`: the message is accepted, and there are fewer than `out->records` items; they are unchanged.
 /// - `REFUSED`: the items are unchanged.
 /// - `BAD_ARGUMENT`: a limit is out of range, an unknown flag is set, or `length` is above 4294967295; nothing is
 ///   written.

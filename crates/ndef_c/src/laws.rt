@@ -1,21 +1,21 @@
-//! What holds of the calls together.
+//! Properties that the calls have together.
 ghost use Rattle.ndef_c.specs.Feeding.{FeedsAreChecks};
 ghost use Rattle.ndef_c.specs.Fields.{OneFieldWith, StepsLeadOn};
 ghost use Rattle.ndef_c.specs.Growing.{FirstIsHeld, HeldAreAMessage, OthersAreHeld};
 ghost use Rattle.ndef_c.specs.HandoverMaking.{WrittenRequestsAreRead, WrittenSelectsAreRead};
-ghost use Rattle.ndef_c.specs.Links.{LinksAreTold};
+ghost use Rattle.ndef_c.specs.Links.{LinksAreExact};
 ghost use Rattle.ndef_c.specs.PosterWrites.{WrittenPostersAreRead};
 ghost use Rattle.ndef_c.specs.Walks.{ChecksAreWalked, OneRecordIsThere};
 ghost use Rattle.ndef_c.specs.Writes.{RecordsMakeAMessage};
 
 use ndef_lang::RecordLanguage;
-use ndef_message::{answers_are_told, views_are_exact, writing_is_spelling};
+use ndef_message::{answers_are_exact, views_are_exact, writing_is_spelling};
 use ndef_nest::strict_contents_are_read;
 use ndef_types::{alternatives_are_exact, texts_are_exact, uris_are_exact};
 use ndef_value::one_meaning;
 
-/// What a check takes is walked from offset 0 on: its records lie one after another, each where the one before it ends,
-/// and only the last of them is marked as the last.
+/// A message that a check accepts is walked from offset 0 on: its records follow one another, each where the one before
+/// it ends, and only the last of them is marked as the last.
 pub fn checks_are_walked<L: RecordLanguage>()
     ensures { ChecksAreWalked L.payloads L.reasons }
 {}
@@ -25,7 +25,7 @@ pub fn feeds_are_checks<L: RecordLanguage>()
     ensures { FeedsAreChecks L.payloads L.reasons }
 {
     views_are_exact::<L>();
-    answers_are_told::<L>();
+    answers_are_exact::<L>();
 }
 
 /// At an offset begins one record, if any, and it ends at one offset.
@@ -39,39 +39,39 @@ pub fn records_make_a_message()
     ensures { RecordsMakeAMessage }
 {}
 
-/// What a buffer holds of the records that `ndef_append` appends to it: each written as asked, one after another,
-/// and only the first and the last of them marked as such.
+/// The records that `ndef_append` appends to a buffer follow one another, each written as its call requests,
+/// and only the first and the last of them are marked as such.
 pub fn appended_records_are_held()
     ensures first { FirstIsHeld }
     ensures others { OthersAreHeld }
 {}
 
-/// The records that a buffer holds are a message, whatever form and chunks were asked for each of them.
+/// The records that a buffer holds are a message, whatever form and chunks were requested for each of them.
 pub fn held_records_are_a_message()
     ensures { HeldAreAMessage }
 {
     writing_is_spelling();
 }
 
-/// Of a message that a check takes and its handover `ndef_link_at` gives the links that the message has, in their
-/// order, and no more.
-pub fn links_are_told<L: RecordLanguage>()
-    ensures { LinksAreTold L.payloads L.reasons }
+/// For a message that a check accepts and its handover, `ndef_link_at` gives exactly the links of the message, in their
+/// order.
+pub fn links_are_exact<L: RecordLanguage>()
+    ensures { LinksAreExact L.payloads L.reasons }
 {
     one_meaning();
     strict_contents_are_read();
     alternatives_are_exact();
 }
 
-/// Of fields that follow one another without a gap the byte at an offset is in one, and the byte after one of
-/// them in the next: so `ndef_next_field` steps from each to the one after it.
+/// If fields follow one another without a gap, the byte at an offset is in exactly one of them, and the byte after a
+/// field is in the next: so `ndef_next_field` steps from each to the one after it.
 pub fn fields_are_stepped()
     ensures one { OneFieldWith }
     ensures next { StepsLeadOn }
 {}
 
-/// The records that `ndef_write_poster` writes are those of a poster for a strict reader; so what is
-/// written is decoded to them, as `posters_are_exact` says.
+/// The records that `ndef_write_poster` writes are those of a poster for a strict reader; so the octets that it
+/// writes are decoded to them (`posters_are_exact`).
 pub fn written_posters_are_read()
     ensures { WrittenPostersAreRead }
 {
@@ -80,8 +80,8 @@ pub fn written_posters_are_read()
 }
 
 /// The records that `ndef_write_request` and `ndef_write_select` write are those of a request and of a
-/// select for a strict reader; so what is written is decoded to them, as `requests_are_exact` and
-/// `selects_are_exact` say.
+/// select for a strict reader; so what is written is decoded to them (`requests_are_exact` and
+/// `selects_are_exact`).
 pub fn written_handovers_are_read()
     ensures requests { WrittenRequestsAreRead }
     ensures selects { WrittenSelectsAreRead }

@@ -148,7 +148,7 @@ fn fits(fields: &[NdefLayoutField], length: usize) -> bool
     least <= length && (open || length <= most)
 }
 
-/// What is left of the octets after a field, if some payload of the layout begins with the field's first octet.
+/// Returns the octets after a field, if some payload of the layout begins with the field's first octet.
 fn after_field<'a>(field: Field, octets: &'a [u8], more: &[NdefLayoutField]) -> Option<&'a [u8]>
     requires more { MayBeLayout more.now }
     requires inner { is_last field ≡ false }
@@ -195,7 +195,7 @@ fn text_refusal(text: &[u8], before: u64) -> Option<Refusal>
     })
 }
 
-/// The first field of a layout, and those after it; none where there are no fields.
+/// The first field of a layout, and those after it; None if there are no fields.
 fn first_field(fields: &[NdefLayoutField]) -> Option<(Field, &[NdefLayoutField])>
     requires { MayBeLayout fields.now }
     ensures none { IfNone result (layout_of fields.now ≡ []) }

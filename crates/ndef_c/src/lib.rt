@@ -1,49 +1,52 @@
 //! The library as C calls it: it allocates no memory, and keeps nothing between calls except in a checker, in the
-//! memory of its caller. `include/ndef.h` says what each call demands, answers and leaves.
+//! memory of its caller. `include/ndef.h` states what each call demands, returns and leaves.
 //!
-//! Where to look:
+//! The files:
 //!
 //! - `checking.rt`: check. `feeding.rt`, `specs/Feeding.antt`: check of bytes that come in parts.
 //! - `run.rt`, `record.rt`, `specs/Walks.antt`: the record at a place. `payload.rt`: its joined payload. `walk.rt`: the
 //!   records from a place on, which other calls go over.
-//! - `kinds.rt`, `specs/Kinds.antt`: what the payload of a record is, as its type says.
-//! - `pieces.rt`, `specs/Pieces.antt`: where its pieces lie. `specs/Arrays.antt`: what is written to an array.
-//! - `fields.rt`, `field_names.rt`, `payload_fields.rt`, `specs/Fields.antt`: in which field each byte stands.
-//! - `why.rt`, `specs/Whys.antt`: why bytes are refused, in sentences. `hints.rt`, `specs/Hints.antt`: what may help,
-//!   in sentences and by numbers. `remarks.rt`, `specs/Remarks.antt`: what is strange in a message that is accepted.
+//! - `kinds.rt`, `specs/Kinds.antt`: the kind of a record's payload, from its type.
+//! - `chunks.rt`, `specs/Chunks.antt`: the places of its pieces. `specs/Arrays.antt`: results written to an array.
+//! - `fields.rt`, `field_names.rt`, `payload_fields.rt`, `specs/Fields.antt`: the field of each byte.
+//! - `refusal_message.rt`, `specs/RefusalMessages.antt`: the reason of a refusal, in sentences. `hints.rt`,
+//!   `specs/Hints.antt`: hints, in sentences and by numbers. `warnings.rt`, `specs/Warnings.antt`: warnings about
+//!   a message that is accepted.
 //! - `items.rt`, `specs/Items.antt`: a message and all its records, in one call.
 //! - `layout.rt`, `specs/Layouts.antt`: payloads of a layout that a program gives.
 //! - `finding.rt`, `specs/Finding.antt`: the first record with a type or an id.
 //! - `writer.rt`, `specs/Writers.antt`: a record written in steps.
 //! - `writing.rt`, `specs/Writes.antt`: a record written. `building.rt`, `specs/Built.antt`, `specs/Growing.antt`: a
-//!   message built in a room. `making.rt`, `specs/Made.antt`, `content.rt`, `specs/Contents.antt`: a record whose
-//!   payload is written in place. `appending.rt`, `specs/Appending.antt`: texts and URIs appended so.
+//!   message built in a buffer. `making.rt`, `specs/PendingRecord.antt`, `content.rt`, `specs/Contents.antt`: a record
+//!   whose payload is written in place. `appending.rt`, `specs/Appending.antt`: texts and URIs appended so.
 //! - `poster_writing.rt`, `specs/PosterWrites.antt`: a smart poster written in one call. `poster_parts.rt`,
-//!   `specs/PosterParts.antt`: its titles and icons. `series.rt`, `series_writing.rt`, `specs/Series.antt`: records
-//!   written one after another.
+//!   `specs/PosterParts.antt`: its titles and icons. `record_list.rt`, `series_writing.rt`, `specs/RecordList.antt`:
+//!   records written one after another.
 //! - `handover_making.rt`, `specs/HandoverMaking.antt`: a request or a select written in one call. `handover_parts.rt`,
 //!   `specs/HandoverParts.antt`: its alternative carriers.
-//! - `rewriting.rt`, `specs/Rewrites.antt`: a message written again, each record in one piece.
-//! - `uri.rt`, `uri_view.rt`, `text.rt`, `carrier.rt`, `alternative.rt`, `request.rt`, `select.rt`, `poster.rt`,
+//! - `normalizing.rt`, `specs/Normalizing.antt`: a message written again, each record in one piece.
+//! - `uri.rt`, `uri_parts.rt`, `text.rt`, `carrier.rt`, `alternative.rt`, `request.rt`, `select.rt`, `poster.rt`,
 //!   `error.rt`: payloads of each kind. `numbers.rt` and `alternative_writing.rt`, `error_writing.rt`,
 //!   `handover_writing.rt`: those of records within posters and handovers, written.
-//! - `titles.rt`, `specs/Titles.antt`: the titles and the media type of a poster, where they lie.
-//! - `icons.rt`, `specs/Icons.antt`: the icons of a poster, where they lie.
+//! - `titles.rt`, `specs/Titles.antt`: the places of the titles and of the media type of a poster.
+//! - `icons.rt`, `specs/Icons.antt`: the places of the icons of a poster.
 //! - `utf16.rt`: texts from and to UTF-16.
-//! - `link.rt`: the links of a message. `message.rt`: its records. `handover.rt`: what requests and
-//!   selects share. `links.rt`, `references.rt`: all links of a message, all references of an alternative carrier.
-//! - `nested.rt`: records of the messages in payloads. `sought.rt`, `specs/Sought.antt`: what is given for each record
-//!   that is wanted, and their number.
-//! - `out.rt`, `room.rt`, `specs/Rooms.antt`: octets written to the caller's buffer, or counted.
-//! - `laws.rt`: what holds of the calls together.
+//! - `link.rt`: the links of a message. `message.rt`: its records. `handover.rt`: common parts of requests
+//!   and selects. `links.rt`, `references.rt`: all links of a message, all references of an alternative carrier.
+//! - `nested.rt`: records of the messages in payloads. `query.rt`, `specs/RecordQuery.antt`: the results for records
+//!   that are sought, and their number.
+//! - `out.rt`, `buffer.rt`, `specs/Buffers.antt`: octets that are written to the caller's buffer, or counted.
+//! - `laws.rt`: properties that the calls have together.
 #![tactic(auto)]
 
 mod alternative;
 mod alternative_writing;
 mod appending;
+mod buffer;
 mod building;
 mod carrier;
 mod checking;
+mod chunks;
 mod content;
 mod error;
 mod error_writing;
@@ -67,38 +70,36 @@ mod links;
 mod making;
 mod message;
 mod nested;
+mod normalizing;
 mod numbers;
 mod out;
 mod part;
 mod payload;
 mod payload_fields;
-mod pieces;
 mod poster;
 mod poster_parts;
 mod poster_writing;
+mod query;
 mod reasons;
 mod record;
+mod record_list;
 mod references;
 mod refusal;
-mod remarks;
+mod refusal_message;
 mod request;
-mod rewriting;
-mod room;
 mod run;
 mod select;
-mod series;
 mod series_writing;
-mod sought;
 mod status;
 mod status_name;
 mod text;
 mod titles;
 mod uri;
-mod uri_view;
+mod uri_parts;
 mod utf16;
 mod version;
 mod walk;
-mod why;
+mod warnings;
 mod writer;
 mod writing;
 
@@ -108,13 +109,14 @@ pub use alternative::ndef_reference;
 pub use alternative_writing::ndef_write_alternative;
 pub use appending::ndef_append_text;
 pub use appending::ndef_append_uri;
-pub use building::NdefBuilt;
+pub use building::NdefMessageBuilder;
 pub use building::ndef_append;
 pub use carrier::NdefCarrier;
 pub use carrier::ndef_carrier;
 pub use carrier::ndef_write_carrier;
 pub use checking::NdefChecked;
 pub use checking::ndef_check;
+pub use chunks::ndef_chunks;
 pub use error::NdefError;
 pub use error::ndef_error;
 pub use error_writing::ndef_write_error;
@@ -163,7 +165,7 @@ pub use laws::checks_are_walked;
 pub use laws::feeds_are_checks;
 pub use laws::fields_are_stepped;
 pub use laws::held_records_are_a_message;
-pub use laws::links_are_told;
+pub use laws::links_are_exact;
 pub use laws::one_record_is_there;
 pub use laws::records_make_a_message;
 pub use laws::written_handovers_are_read;
@@ -177,17 +179,17 @@ pub use layout::NdefLaidOut;
 pub use layout::NdefLayoutField;
 pub use layout::ndef_check_layout;
 pub use limits::NdefLimits;
-pub use limits::ndef_usual_limits;
+pub use limits::ndef_default_limits;
 pub use link::NdefLink;
 pub use link::ndef_link_at;
 pub use links::ndef_links;
+pub use normalizing::ndef_normalize;
 pub use numbers::ndef_write_action;
 pub use numbers::ndef_write_collision;
 pub use numbers::ndef_write_size;
 pub use part::NdefPart;
 pub use payload::ndef_payload;
 pub use payload_fields::ndef_payload_fields;
-pub use pieces::ndef_pieces;
 pub use poster::NdefPoster;
 pub use poster::ndef_poster;
 pub use poster_parts::NdefIconWriting;
@@ -199,17 +201,15 @@ pub use reasons::ndef_reason_sentence;
 pub use record::NdefRecord;
 pub use record::ndef_record_at;
 pub use references::ndef_references;
-pub use remarks::ndef_field_remark;
-pub use remarks::ndef_record_remark;
+pub use refusal_message::ndef_refusal_message;
 pub use request::NdefRequest;
 pub use request::ndef_request;
-pub use rewriting::ndef_rewrite;
 pub use select::NdefSelect;
 pub use select::ndef_select;
 pub use status::BAD_ARGUMENT;
+pub use status::BUFFER_TOO_SMALL;
 pub use status::END;
 pub use status::MORE;
-pub use status::NO_ROOM;
 pub use status::OK;
 pub use status::REFUSED;
 pub use status_name::ndef_status_name;
@@ -222,14 +222,15 @@ pub use titles::ndef_poster_titles;
 pub use titles::ndef_title;
 pub use uri::ndef_uri;
 pub use uri::ndef_write_uri;
-pub use uri_view::NdefUri;
-pub use uri_view::ndef_uri_prefix;
-pub use uri_view::ndef_uri_view;
+pub use uri_parts::NdefUri;
+pub use uri_parts::ndef_split_uri;
+pub use uri_parts::ndef_uri_prefix;
 pub use version::MAJOR;
 pub use version::MINOR;
 pub use version::PATCH;
 pub use version::ndef_version;
-pub use why::ndef_why;
+pub use warnings::ndef_field_warning;
+pub use warnings::ndef_record_warning;
 pub use writer::NdefWriter;
 pub use writer::ndef_writer_begin;
 pub use writer::ndef_writer_next;

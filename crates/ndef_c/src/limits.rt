@@ -14,7 +14,7 @@ pub struct NdefLimits {
     /// The greatest number of records of a message, 1 to 65535.
     pub records: u32,
     /// The greatest number of chunks of a record, 1 to 65535.
-    pub pieces: u32,
+    pub chunks: u32,
     /// 1 for the profile Standard, 2 for a look into no payload, 3 for both.
     pub flags: u32,
 }
@@ -30,7 +30,7 @@ pub(crate) fn profile_of(flags: u32) -> Profile
     }
 }
 
-/// The limits of these numbers, and whether payloads are looked into.
+/// Returns the limits of these numbers, and whether payloads are validated.
 pub(crate) fn limits_of(numbers: &NdefLimits) -> Option<(Limits, bool)>
     ensures some { IsSome result ↔ MayBeSet numbers.now }
     ensures limits { IfSome result (λ r. r.0 ≡ limits_of numbers.now) }
@@ -39,7 +39,7 @@ pub(crate) fn limits_of(numbers: &NdefLimits) -> Option<(Limits, bool)>
     if numbers.flags > 3 {
         return None;
     }
-    let Ok(limits) = Limits::new(numbers.payload, numbers.records, numbers.pieces) else {
+    let Ok(limits) = Limits::new(numbers.payload, numbers.records, numbers.chunks) else {
         return None;
     };
     Some((limits.with(profile_of(numbers.flags)), numbers.flags < 2))
@@ -48,7 +48,7 @@ pub(crate) fn limits_of(numbers: &NdefLimits) -> Option<(Limits, bool)>
 /// Writes the default limits: 1048576 bytes, 1024 records and 4096 chunks, strict, with a look
 /// into payloads.
 #[unsafe(no_mangle)]
-pub extern "C" fn ndef_usual_limits(out: &mut NdefLimits)
+pub extern "C" fn ndef_default_limits(out: &mut NdefLimits)
     ensures limits { limits_of out.new ≡ usual_limits }
     ensures looks { ChecksPayloads out.new }
 {
@@ -56,7 +56,7 @@ pub extern "C" fn ndef_usual_limits(out: &mut NdefLimits)
     *out = NdefLimits {
         payload: limits.payload(),
         records: limits.records(),
-        pieces: limits.pieces(),
+        chunks: limits.pieces(),
         flags: 0,
     };
 }

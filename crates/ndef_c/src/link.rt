@@ -8,7 +8,7 @@ ghost use Rattle.ndef_c.specs.Links.{BeginsWithRuns, HasNoLink, HasRuns, IsLinkA
 use crate::handover::is_handover;
 use crate::links::Links;
 use crate::message::{Place, has_message, record_with};
-use crate::sought::give_one;
+use crate::query::give_one;
 use crate::status::{BAD_ARGUMENT, END, OK};
 use ndef_types::AlternativeParts;
 
@@ -16,20 +16,20 @@ use ndef_types::AlternativeParts;
 #[repr(C)]
 #[derive(Clone, Copy, Drop)]
 pub struct NdefLink {
-    /// Where the payload of its Alternative Carrier record begins in that of the handover.
+    /// The offset of the payload of its Alternative Carrier record in that of the handover.
     pub carrier_at: usize,
     /// The bytes of that payload.
     pub carrier_length: usize,
     /// The index from 0 of the record of the message; 0 without one.
     pub record_index: usize,
-    /// Where that record begins; 0 without one.
+    /// The offset of that record; 0 without one.
     pub record_at: usize,
     /// 1 where it refers to a record, else 0.
     pub has_record: u32,
 }
 
 /// 1, the index and the place of a record, or 0s for none.
-fn told(place: Option<Place>) -> (u32, usize, usize)
+fn reported(place: Option<Place>) -> (u32, usize, usize)
     ensures { TellsPlace place result.0 result.1 result.2 }
 {
     match place {
@@ -48,7 +48,7 @@ pub(crate) fn link_of(bytes: &[u8], at: usize, carrier: &[u8]) -> NdefLink
     ensures refers { (runs : List Run) (v : AcValue) → BeginsWithRuns runs bytes.now
         → StandsForAc carrier.now v → TellsRecord bytes.now runs v.reference result }
 {
-    let (has_record, record_index, record_at) = told(record_with(
+    let (has_record, record_index, record_at) = reported(record_with(
         bytes,
         AlternativeParts::new(carrier).reference(),
     ));

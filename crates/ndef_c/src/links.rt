@@ -8,12 +8,12 @@ ghost use Rattle.ndef_types.specs.Links.{alternatives, is_alternative};
 ghost use Rattle.ndef_c.specs.Handovers.{HasMessage};
 ghost use Rattle.ndef_c.specs.Links.{GivesLinks, IsLinkAt, MayHaveLinks};
 
-use crate::handover::{behind_version, is_handover};
+use crate::handover::{after_version, is_handover};
 use crate::link::{NdefLink, link_of};
 use crate::message::has_message;
 use crate::nested::is_alternative;
+use crate::query::{Expected, RecordQuery, give_all};
 use crate::record::{NdefRecord, part_in};
-use crate::sought::{Sought, Wanted, give_all};
 use crate::status::BAD_ARGUMENT;
 use ndef_types::alternatives_are_exact;
 use ndef_value::Tnf;
@@ -25,17 +25,17 @@ pub(crate) struct Links<'a> {
     pub(crate) payload: &'a [u8],
 }
 
-impl<'a> Wanted for Links<'a> {
-    ghost wanted = { λ tnf kind. is_alternative (kind_of tnf kind) };
+impl<'a> Expected for Links<'a> {
+    ghost expected = { λ tnf kind. is_alternative (kind_of tnf kind) };
 
-    fn is_wanted(tnf: Tnf, kind: &[u8]) -> bool
+    fn is_expected(tnf: Tnf, kind: &[u8]) -> bool
         ensures { result ≡ is_alternative (kind_of tnf kind.now) }
     {
         is_alternative(tnf, kind)
     }
 }
 
-impl<'a> Sought for Links<'a> {
+impl<'a> RecordQuery for Links<'a> {
     type Given = NdefLink;
 
     ghost octets = { λ links. drop 1 links.payload.now };
@@ -49,18 +49,18 @@ impl<'a> Sought for Links<'a> {
     ghost in_pieces = { λ links items h. h.1 };
 
     fn message(&self) -> &[u8] {
-        behind_version(self.payload)
+        after_version(self.payload)
     }
 
     fn given(&self, found: &NdefRecord) -> NdefLink {
         // For the proof alone.
         alternatives_are_exact();
-        let carrier = part_in(behind_version(self.payload), found);
+        let carrier = part_in(after_version(self.payload), found);
         link_of(self.bytes, found.payload_at, carrier)
     }
 }
 
-/// Gives each link, where there is room for them, and their number.
+/// Writes each link, if the array is large enough, and their number.
 fn give_links(bytes: &[u8], payload: &[u8], links: &mut [NdefLink], count: &mut usize) -> u32
     requires { MayHaveLinks bytes.now payload.now }
     ensures { GivesLinks bytes.now payload.now links.old links.new count.new result }

@@ -6,8 +6,8 @@ ghost use Rattle.ndef_message.specs.Written.{is_short};
 ghost use Rattle.ndef_message.specs.declared.form.Form.TheVariants.{Short};
 ghost use Rattle.ndef_piece.specs.Heads.{written_fields};
 ghost use Rattle.ndef_c.specs.Contents.{content_octets};
-ghost use Rattle.ndef_c.specs.Made.{IsMade, made_item, whole_octets};
-ghost use Rattle.ndef_c.specs.Rooms.{Puts};
+ghost use Rattle.ndef_c.specs.PendingRecord.{IsMade, made_item, whole_octets};
+ghost use Rattle.ndef_c.specs.Buffers.{Puts};
 
 use crate::content::{Content, put_content};
 use crate::out::Out;
@@ -18,7 +18,7 @@ use ndef_value::Tnf;
 
 /// A record.
 #[derive(Clone, Copy)]
-pub(crate) struct Made<'a> {
+pub(crate) struct PendingRecord<'a> {
     pub(crate) tnf: Tnf,
     pub(crate) kind: &'a [u8],
     pub(crate) id: &'a [u8],
@@ -27,7 +27,7 @@ pub(crate) struct Made<'a> {
     pub(crate) bytes: usize,
 }
 
-/// Where a record stands in its message.
+/// The position of a record in its message: whether it is the first, the last, both or neither.
 #[derive(Clone, Copy)]
 pub(crate) struct Ends {
     pub(crate) first: bool,
@@ -35,7 +35,7 @@ pub(crate) struct Ends {
 }
 
 /// The head of its piece.
-fn head_of(made: &Made<'_>, ends: Ends) -> Head
+fn head_of(made: &PendingRecord<'_>, ends: Ends) -> Head
     requires { IsMade made.now }
     ensures head { written_fields result
         ≡ fields (first_piece ends.first ends.last false (made_item made.now) (content_octets made.now.content))
@@ -55,7 +55,7 @@ fn head_of(made: &Made<'_>, ends: Ends) -> Head
 
 /// Writes the record.
 #[inline(always)]
-pub(crate) fn put_made(out: &mut Out<'_>, made: &Made<'_>, ends: Ends)
+pub(crate) fn put_pending_record(out: &mut Out<'_>, made: &PendingRecord<'_>, ends: Ends)
     requires { IsMade made.now }
     ensures put { Puts out.old (whole_octets ends (made_item made.now)) out.new }
     ensures bound { length (whole_octets ends (made_item made.now)) < 2 ^ 33 }

@@ -11,7 +11,7 @@ use crate::walk::Walk;
 pub(crate) struct Place {
     /// Its index from 0.
     pub(crate) index: usize,
-    /// Where it begins.
+    /// The offset at which it begins.
     pub(crate) at: usize,
 }
 

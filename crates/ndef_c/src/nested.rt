@@ -7,8 +7,8 @@ ghost use Rattle.ndef_types.specs.Contents.{IsOfKind};
 ghost use Rattle.ndef_types.specs.Links.{alternatives, is_alternative};
 ghost use Rattle.ndef_c.specs.Nested.{MayBeInPieces, FirstLies};
 
+use crate::query::{Expected, count_expected};
 use crate::record::{part_in, tnf_in, type_in};
-use crate::sought::{Wanted, count_wanted};
 use crate::walk::Walk;
 use ndef_lang::Kind;
 use ndef_nest::Table;
@@ -18,7 +18,7 @@ use ndef_value::Tnf;
 /// The payload of a record in one piece, and where it lies.
 #[derive(Clone, Copy)]
 pub(crate) struct Found<'a> {
-    /// Where it begins.
+    /// The offset at which it begins.
     pub(crate) at: usize,
     /// Its bytes.
     pub(crate) payload: &'a [u8],
@@ -54,10 +54,10 @@ pub(crate) fn is_alternative(tnf: Tnf, kind: &[u8]) -> bool
 /// The alternative carriers of a message.
 struct Carriers;
 
-impl Wanted for Carriers {
-    ghost wanted = { λ tnf kind. is_alternative (kind_of tnf kind) };
+impl Expected for Carriers {
+    ghost expected = { λ tnf kind. is_alternative (kind_of tnf kind) };
 
-    fn is_wanted(tnf: Tnf, kind: &[u8]) -> bool {
+    fn is_expected(tnf: Tnf, kind: &[u8]) -> bool {
         is_alternative(tnf, kind)
     }
 }
@@ -68,5 +68,5 @@ pub(crate) fn alternatives_in(bytes: &[u8]) -> usize
     ensures { (profile : Profile) (items : List Item) → MayBeInPieces profile items bytes.now
         → result ≡ length (alternatives items) }
 {
-    count_wanted::<Carriers>(bytes)
+    count_expected::<Carriers>(bytes)
 }

@@ -1,24 +1,24 @@
-//! Where octets are written one after another: to a buffer, or to nothing, so that they are counted.
+//! The output of octets one after another: to a buffer, or to a counter that drops them.
 ghost use Rattle.std.specs.Prelude.{◌≡◌};
 
 /// A buffer, and the place after what was written. What is written past the end of the buffer is counted alone, so an
 /// empty buffer counts. The functions that write are inlined, so that those that count do nothing else.
 #[derive(Drop)]
 pub(crate) struct Out<'a> {
-    room: &'a mut [u8],
+    buffer: &'a mut [u8],
     at: usize,
 }
 
 impl<'a> Out<'a> {
-    ghost use Rattle.ndef_c.specs.Rooms.{Puts};
+    ghost use Rattle.ndef_c.specs.Buffers.{Puts};
 
     /// Writes from a place of the buffer on.
-    pub(crate) fn new(room: &'a mut [u8], at: usize) -> Out<'a>
-        ensures same_reference { result.room.ghost_name ≡ room.entry.ghost_name }
-        ensures room { result.room.now ≡ room.old }
+    pub(crate) fn new(buffer: &'a mut [u8], at: usize) -> Out<'a>
+        ensures same_reference { result.buffer.ghost_name ≡ buffer.entry.ghost_name }
+        ensures buffer { result.buffer.now ≡ buffer.old }
         ensures at { result.at ≡ at }
     {
-        Out { room, at }
+        Out { buffer, at }
     }
 
     /// Writes the octets.
@@ -27,13 +27,13 @@ impl<'a> Out<'a> {
         ensures { Puts self.old octets.now self.new }
     {
         let end = self.at.saturating_add(octets.len());
-        if end <= self.room.len() {
-            self.room[self.at..end].copy_from_slice(octets);
+        if end <= self.buffer.len() {
+            self.buffer[self.at..end].copy_from_slice(octets);
         }
         self.at = end;
     }
 
-    /// The place after what was written.
+    /// The place after the bytes that were written.
     pub(crate) fn at(&self) -> usize
         ensures { result ≡ self.now.at }
     {

@@ -2,14 +2,14 @@
 ghost use Rattle.std.specs.Prelude.{◌≡◌, ◌≢◌, ◌↔◌, List, ℕ};
 ghost use Rattle.ndef_format.specs.Records.{Run};
 ghost use Rattle.ndef_format.specs.Messages.{run_record};
-ghost use Rattle.ndef_c.specs.Rooms.{Puts};
+ghost use Rattle.ndef_c.specs.Buffers.{Puts};
 ghost use Rattle.ndef_c.specs.Runs.{HasRun};
 ghost use Rattle.ndef_c.specs.Walks.{BeginsWithRun, IsRecordThere, GivesPayload};
 
+use crate::chunks::Pieces;
 use crate::out::Out;
-use crate::pieces::Pieces;
 use crate::record::record_at;
-use crate::status::{BAD_ARGUMENT, NO_ROOM, OK};
+use crate::status::{BAD_ARGUMENT, BUFFER_TOO_SMALL, OK};
 
 /// Writes the payload of the run with which the bytes begin, the payloads of its pieces joined.
 #[inline(always)]
@@ -26,19 +26,19 @@ pub(crate) fn copy_pieces(out: &mut Out<'_>, bytes: &[u8])
 /// Writes the payload of the record at an offset of the bytes, the payloads of its chunks joined, to the
 /// buffer.
 #[unsafe(no_mangle)]
-pub extern "C" fn ndef_payload(bytes: &[u8], at: usize, room: &mut [u8], count: &mut usize) -> u32
+pub extern "C" fn ndef_payload(bytes: &[u8], at: usize, buffer: &mut [u8], count: &mut usize) -> u32
     ensures bad { result ≡ BAD_ARGUMENT ↔ ¬ IsRecordThere bytes.now at }
-    ensures kept { result ≡ BAD_ARGUMENT → (room.new ≡ room.old) × (count.new ≡ count.old) }
-    ensures payload { result ≢ BAD_ARGUMENT → GivesPayload bytes.now at room.old room.new count.new result }
+    ensures kept { result ≡ BAD_ARGUMENT → (buffer.new ≡ buffer.old) × (count.new ≡ count.old) }
+    ensures payload { result ≢ BAD_ARGUMENT → GivesPayload bytes.now at buffer.old buffer.new count.new result }
 {
     let Some(found) = record_at(bytes, at) else {
         return BAD_ARGUMENT;
     };
     *count = found.payload_length;
-    if room.len() < found.payload_length {
-        return NO_ROOM;
+    if buffer.len() < found.payload_length {
+        return BUFFER_TOO_SMALL;
     }
-    let (_before, behind) = bytes.split_at(at);
-    copy_pieces(&mut Out::new(room, 0), behind);
+    let (_before, following) = bytes.split_at(at);
+    copy_pieces(&mut Out::new(buffer, 0), following);
     OK
 }

@@ -1,25 +1,25 @@
-//! In which field each byte of a payload stands, its chunks joined.
+//! The field of each byte of a payload, its chunks joined.
 ghost use Rattle.std.specs.Prelude.{◌≡◌, ◌≢◌, ◌<◌, ◌↔◌, ◌⊎◌, List};
-ghost use Rattle.ndef_fields.specs.Tellings.{ArePayloadFields};
+ghost use Rattle.ndef_fields.specs.Reports.{ArePayloadFields};
 ghost use Rattle.ndef_fields.specs.declared.field.Field.{Field as Part};
 ghost use Rattle.ndef_c.specs.Fields.{GivesEach, GivesPayloadFields};
 
 use crate::fields::{NdefField, count_of, write_fields};
-use crate::status::{BAD_ARGUMENT, NO_ROOM, OK};
+use crate::status::{BAD_ARGUMENT, BUFFER_TOO_SMALL, OK};
 use crate::writing::tnf_of;
 use ndef_fields::{payload_fields, payload_fields_are_exact};
 use ndef_lang::Kind;
 
-/// Writes the fields of a payload of this kind, where the array has room for them, and sets `count` to their number.
+/// Writes the fields of a payload of this kind, if the array is large enough, and sets `count` to their number.
 fn give_payload_fields(
     kind: Kind,
     payload: &[u8],
     array: &mut [NdefField],
     count: &mut usize,
 ) -> u32
-    ensures known { (result ≡ NO_ROOM) ⊎ (result ≡ OK) }
-    ensures fields { (told : List Part) × ArePayloadFields kind payload.now told
-        × GivesEach told OK array.old array.new count.new result }
+    ensures known { (result ≡ BUFFER_TOO_SMALL) ⊎ (result ≡ OK) }
+    ensures fields { (reported : List Part) × ArePayloadFields kind payload.now reported
+        × GivesEach reported OK array.old array.new count.new result }
 {
     // For the proof alone.
     payload_fields_are_exact();
@@ -27,7 +27,7 @@ fn give_payload_fields(
         // A field has at least one byte. Only here may there be more than the array takes.
         *count = count_of(payload_fields(kind, payload));
         if array.len() < *count {
-            return NO_ROOM;
+            return BUFFER_TOO_SMALL;
         }
     }
     *count = write_fields(payload_fields(kind, payload), array);

@@ -28,7 +28,7 @@ use ndef_types::accept;
 #[repr(C)]
 #[derive(Clone, Copy, Drop)]
 pub struct NdefPoster {
-    /// Where the payload of its URI record begins.
+    /// The offset of the payload of its URI record.
     pub uri_at: usize,
     /// The bytes of that payload.
     pub uri_length: usize,
@@ -54,7 +54,7 @@ fn uri_of(payload: &[u8]) -> Found<'_>
     }
 }
 
-/// What its first action record says.
+/// Returns the action of its first action record.
 fn action_of(payload: &[u8]) -> Option<u32>
     requires { (profile : Profile) × (items : List Item) × HasPosterRecords profile items payload.now }
     ensures { (profile : Profile) (items : List Item) → HasPosterRecords profile items payload.now
@@ -77,7 +77,7 @@ fn number_of(octets: &[u8]) -> u32
     }
 }
 
-/// What its first size record says.
+/// Returns the size of its first size record.
 fn size_of(payload: &[u8]) -> Option<u32>
     requires { (profile : Profile) × (items : List Item) × HasPosterRecords profile items payload.now }
     ensures { (profile : Profile) (items : List Item) → HasPosterRecords profile items payload.now
@@ -90,7 +90,7 @@ fn size_of(payload: &[u8]) -> Option<u32>
 }
 
 /// 1 and a number, or 0 and 0 for none.
-pub(crate) fn told(number: Option<u32>) -> (u32, u32)
+pub(crate) fn reported(number: Option<u32>) -> (u32, u32)
     ensures { TellsNumber number result.0 result.1 }
 {
     match number {
@@ -99,7 +99,7 @@ pub(crate) fn told(number: Option<u32>) -> (u32, u32)
     }
 }
 
-/// Where the payload of the poster's URI record lies, its action and its size.
+/// Returns the place of the payload of the poster's URI record, the action and the size.
 fn poster_at(payload: &[u8]) -> NdefPoster
     requires nest { (profile : Profile) × IsNest tables.SmartPoster MOST_RECORDS profile payload.now }
     requires short { length payload.now < 2 ^ 32 }
@@ -107,8 +107,8 @@ fn poster_at(payload: &[u8]) -> NdefPoster
         → IsPosterAt profile payload.now result }
 {
     let uri = uri_of(payload);
-    let (has_action, action) = told(action_of(payload));
-    let (has_size, size) = told(size_of(payload));
+    let (has_action, action) = reported(action_of(payload));
+    let (has_size, size) = reported(size_of(payload));
     NdefPoster {
         uri_at: uri.at,
         uri_length: uri.payload.len(),
@@ -125,15 +125,15 @@ pub extern "C" fn ndef_poster(
     payload: &[u8],
     flags: u32,
     out: &mut NdefPoster,
-    why: &mut NdefChecked,
+    refusal: &mut NdefChecked,
 ) -> u32
     ensures bad { result ≡ BAD_ARGUMENT ↔ (1 < flags) }
     ensures known { (result ≡ OK) ⊎ (result ≡ REFUSED) ⊎ (result ≡ BAD_ARGUMENT) }
     ensures poster { result ≡ OK → IsPosterAt (profile_of flags) payload.now out.new }
     ensures refused { result ≡ REFUSED → RefusesWith (IsNest tables.SmartPoster MOST_RECORDS (profile_of flags))
-        (NestReason tables.SmartPoster MOST_RECORDS (profile_of flags)) payload.now why.new }
+        (NestReason tables.SmartPoster MOST_RECORDS (profile_of flags)) payload.now refusal.new }
     ensures kept { result ≢ OK → out.new ≡ out.old }
-    ensures kept_why { result ≢ REFUSED → why.new ≡ why.old }
+    ensures kept_refusal { result ≢ REFUSED → refusal.new ≡ refusal.old }
 {
     if flags > 1 {
         return BAD_ARGUMENT;
@@ -143,6 +143,6 @@ pub extern "C" fn ndef_poster(
             *out = poster_at(payload);
             OK
         }
-        Err(refusal) => refuse(refusal, why),
+        Err(found) => refuse(found, refusal),
     }
 }

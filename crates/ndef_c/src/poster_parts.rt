@@ -1,4 +1,4 @@
-//! What a smart poster is made of, as parts of some bytes (RTD Smart Poster 1.0).
+//! The records of a smart poster, as parts of some bytes (RTD Smart Poster 1.0).
 ghost use Rattle.std.specs.Prelude.{◌≡◌, ◌<◌, ◌≤◌, ◌^◌, ◌⊎◌, [], length, IfNone, IfSome, IsUtf8};
 ghost use Rattle.ndef_format.specs.Kinds.{kind_name};
 ghost use Rattle.ndef_format.specs.declared.tnf.Tnf.TheVariants.{WellKnown};
@@ -6,11 +6,11 @@ ghost use Rattle.ndef_types.specs.Decoding.{IsTooLong};
 ghost use Rattle.ndef_types.specs.Values.{WritesUri};
 ghost use Rattle.ndef_c.specs.AlternativeWrites.{IsPartWithin, part_of};
 ghost use Rattle.ndef_c.specs.Contents.{IsContent, content_octets};
-ghost use Rattle.ndef_c.specs.Made.{IsMade, item_with, made_item};
+ghost use Rattle.ndef_c.specs.PendingRecord.{IsMade, item_with, made_item};
 ghost use Rattle.ndef_c.specs.PosterParts.{IsUriItem, MayBeIcon, MayBeTitle, icon_item, title_item};
 
 use crate::content::{Content, content_length};
-use crate::making::Made;
+use crate::making::PendingRecord;
 use crate::part::NdefPart;
 use crate::text::text_content;
 use ndef_lang::Kind;
@@ -53,7 +53,7 @@ pub(crate) fn part_in<'a>(bytes: &'a [u8], part: &NdefPart) -> Option<&'a [u8]>
 }
 
 /// A record without an id, if a piece can tell the length of its payload.
-fn content_made<'a>(tnf: Tnf, kind: &'a [u8], content: &Content<'a>) -> Option<Made<'a>>
+fn content_made<'a>(tnf: Tnf, kind: &'a [u8], content: &Content<'a>) -> Option<PendingRecord<'a>>
     requires content { IsContent content.now }
     requires kind { length kind.now < 256 }
     ensures none { IfNone result (2 ^ 32 ≤ length (content_octets content.now)) }
@@ -62,7 +62,7 @@ fn content_made<'a>(tnf: Tnf, kind: &'a [u8], content: &Content<'a>) -> Option<M
     ensures item { IfSome result (λ m. made_item m ≡ item_with tnf kind.now [] (content_octets content.now)) }
 {
     let bytes = content_length(content)?;
-    Some(Made {
+    Some(PendingRecord {
         tnf,
         kind,
         id: &[],
@@ -72,7 +72,7 @@ fn content_made<'a>(tnf: Tnf, kind: &'a [u8], content: &Content<'a>) -> Option<M
 }
 
 /// A record of the well-known type of a kind, without an id, if a piece can tell the length of its payload.
-pub(crate) fn known_made<'a>(kind: Kind, content: &Content<'a>) -> Option<Made<'a>>
+pub(crate) fn known_made<'a>(kind: Kind, content: &Content<'a>) -> Option<PendingRecord<'a>>
     requires { IsContent content.now }
     ensures none { IfNone result (2 ^ 32 ≤ length (content_octets content.now)) }
     ensures fits { IfSome result (λ _. length (content_octets content.now) < 2 ^ 32) }
@@ -81,7 +81,7 @@ pub(crate) fn known_made<'a>(kind: Kind, content: &Content<'a>) -> Option<Made<'
         ≡ item_with WellKnown (kind_name kind) [] (content_octets content.now)) }
 {
     let bytes = content_length(content)?;
-    Some(Made {
+    Some(PendingRecord {
         tnf: Tnf::WellKnown,
         kind: kind.name(),
         id: &[],
@@ -91,7 +91,7 @@ pub(crate) fn known_made<'a>(kind: Kind, content: &Content<'a>) -> Option<Made<'
 }
 
 /// The record of a URI (RTD URI 1.0), by the longest prefix that begins the URI.
-pub(crate) fn uri_made(uri: &[u8]) -> Option<Made<'_>>
+pub(crate) fn uri_made(uri: &[u8]) -> Option<PendingRecord<'_>>
     ensures none { IfNone result ((¬ IsUtf8 uri.now) ⊎ IsTooLong WritesUri uri.now) }
     ensures utf8 { IfSome result (λ _. IsUtf8 uri.now) }
     ensures made { IfSome result IsMade }
@@ -105,7 +105,7 @@ pub(crate) fn uri_made(uri: &[u8]) -> Option<Made<'_>>
 }
 
 /// The record of a title (RTD Text 1.0), if it may be written.
-pub(crate) fn title_made<'a>(bytes: &'a [u8], title: &NdefTitleWriting) -> Option<Made<'a>>
+pub(crate) fn title_made<'a>(bytes: &'a [u8], title: &NdefTitleWriting) -> Option<PendingRecord<'a>>
     ensures none { IfNone result (¬ MayBeTitle bytes.now title.now) }
     ensures may { IfSome result (λ _. MayBeTitle bytes.now title.now) }
     ensures made { IfSome result IsMade }
@@ -118,7 +118,7 @@ pub(crate) fn title_made<'a>(bytes: &'a [u8], title: &NdefTitleWriting) -> Optio
 }
 
 /// The record of an icon (RTD Smart Poster 1.0, icon record), if it may be written.
-pub(crate) fn icon_made<'a>(bytes: &'a [u8], icon: &NdefIconWriting) -> Option<Made<'a>>
+pub(crate) fn icon_made<'a>(bytes: &'a [u8], icon: &NdefIconWriting) -> Option<PendingRecord<'a>>
     ensures none { IfNone result (¬ MayBeIcon bytes.now icon.now) }
     ensures may { IfSome result (λ _. MayBeIcon bytes.now icon.now) }
     ensures made { IfSome result IsMade }

@@ -1,15 +1,15 @@
 //! The names of reasons, and what they mean.
 ghost use Rattle.std.specs.Prelude.{◌≡◌, ◌≢◌, ◌<◌, ◌≤◌, ◌⊎◌, ◌↔◌, IfSome, IsSome};
 ghost use Rattle.ndef_format.specs.Reasons.{reason_number};
-ghost use Rattle.ndef_c.specs.Rooms.{GivesName, GivesSentence};
+ghost use Rattle.ndef_c.specs.Buffers.{GivesName, GivesSentence};
 
-use crate::room::give;
+use crate::buffer::give;
 use crate::status::BAD_ARGUMENT;
 use ndef_value::Reason;
 
 /// The reason with a number.
 fn reason_of(number: u32) -> Option<Reason>
-    ensures told { IfSome result (λ r. reason_number r ≡ number) }
+    ensures reported { IfSome result (λ r. reason_number r ≡ number) }
     ensures some { IsSome result ↔ ((1 ≤ number) × (number ≤ 25)) }
 {
     let reason = match number {
@@ -45,28 +45,28 @@ fn reason_of(number: u32) -> Option<Reason>
 
 /// Writes the name of the reason with a number, in ASCII and with no NUL after it, to the buffer.
 #[unsafe(no_mangle)]
-pub extern "C" fn ndef_reason_name(reason: u32, room: &mut [u8], count: &mut usize) -> u32
+pub extern "C" fn ndef_reason_name(reason: u32, buffer: &mut [u8], count: &mut usize) -> u32
     ensures bad { result ≡ BAD_ARGUMENT ↔ ((reason ≡ 0) ⊎ (25 < reason)) }
-    ensures kept { result ≡ BAD_ARGUMENT → (room.new ≡ room.old) × (count.new ≡ count.old) }
-    ensures name { result ≢ BAD_ARGUMENT → GivesName reason room.old room.new count.new result }
+    ensures kept { result ≡ BAD_ARGUMENT → (buffer.new ≡ buffer.old) × (count.new ≡ count.old) }
+    ensures name { result ≢ BAD_ARGUMENT → GivesName reason buffer.old buffer.new count.new result }
     ensures short { result ≢ BAD_ARGUMENT → count.new ≤ 16 }
 {
     let Some(reason) = reason_of(reason) else {
         return BAD_ARGUMENT;
     };
-    give(reason.name(), room, count)
+    give(reason.name(), buffer, count)
 }
 
 /// Writes what the reason with a number means to the buffer: a sentence of English, in ASCII and with no NUL after it.
 #[unsafe(no_mangle)]
-pub extern "C" fn ndef_reason_sentence(reason: u32, room: &mut [u8], count: &mut usize) -> u32
+pub extern "C" fn ndef_reason_sentence(reason: u32, buffer: &mut [u8], count: &mut usize) -> u32
     ensures bad { result ≡ BAD_ARGUMENT ↔ ((reason ≡ 0) ⊎ (25 < reason)) }
-    ensures kept { result ≡ BAD_ARGUMENT → (room.new ≡ room.old) × (count.new ≡ count.old) }
-    ensures sentence { result ≢ BAD_ARGUMENT → GivesSentence reason room.old room.new count.new result }
+    ensures kept { result ≡ BAD_ARGUMENT → (buffer.new ≡ buffer.old) × (count.new ≡ count.old) }
+    ensures sentence { result ≢ BAD_ARGUMENT → GivesSentence reason buffer.old buffer.new count.new result }
     ensures short { result ≢ BAD_ARGUMENT → count.new ≤ 70 }
 {
     let Some(reason) = reason_of(reason) else {
         return BAD_ARGUMENT;
     };
-    give(reason.sentence(), room, count)
+    give(reason.sentence(), buffer, count)
 }

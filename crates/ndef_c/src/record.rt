@@ -31,7 +31,7 @@ pub struct NdefRecord {
     /// The bytes of its payload, the chunks joined.
     pub payload_length: usize,
     /// The number of its chunks.
-    pub pieces: usize,
+    pub chunks: usize,
     /// The type name format, 0 to 5.
     pub tnf: u32,
     /// 1 for the last of the message, else 0.
@@ -46,8 +46,8 @@ pub(crate) fn record_at(bytes: &[u8], at: usize) -> Option<NdefRecord>
     if at > bytes.len() {
         return None;
     }
-    let (_, behind) = bytes.split_at(at);
-    let Some(found) = first_run(behind) else {
+    let (_, following) = bytes.split_at(at);
+    let Some(found) = first_run(following) else {
         return None;
     };
     let first = found.first;
@@ -64,7 +64,7 @@ pub(crate) fn record_at(bytes: &[u8], at: usize) -> Option<NdefRecord>
         payload_at,
         part_length: first.payload.len(),
         payload_length: found.payload,
-        pieces: found.pieces,
+        chunks: found.pieces,
         tnf: u32::from(first.tnf().code()),
         last: u32::from(found.last),
     })

@@ -1,4 +1,4 @@
-//! Where all references of an alternative carrier lie (Connection Handover 1.2, Alternative Carrier record).
+//! The places of all references of an alternative carrier (Connection Handover 1.2, Alternative Carrier record).
 ghost use Rattle.std.specs.Prelude.{◌≡◌, ◌≢◌, ◌<◌, ◌+◌, ◌^◌, ◌↔◌, length, slice_index, List};
 ghost use Rattle.ndef_format.specs.Handovers.{IsAlternative};
 ghost use Rattle.ndef_types.specs.Values.{AcValue, StandsForAc};
@@ -8,7 +8,7 @@ ghost use Rattle.ndef_c.specs.declared.part.NdefPart.{NdefPart as Part};
 
 use crate::alternative::counted_at;
 use crate::part::NdefPart;
-use crate::status::{BAD_ARGUMENT, NO_ROOM, OK};
+use crate::status::{BAD_ARGUMENT, BUFFER_TOO_SMALL, OK};
 use ndef_lang::{Kind, Leaf};
 use ndef_types::{accept, alternatives_are_exact};
 use ndef_value::Profile;
@@ -16,10 +16,10 @@ use ndef_value::Profile;
 /// Writes where each reference lies to the front of the parts.
 fn tell_references(payload: &[u8], parts: &mut [NdefPart])
     requires alternative { IsAlternative payload.now }
-    requires room { slice_index payload.now (2 + slice_index payload.now 1) < length parts.old }
+    requires buffer { slice_index payload.now (2 + slice_index payload.now 1) < length parts.old }
     ensures { (v : AcValue) → StandsForAc payload.now v
-        → (told : List Part) × EachAt (IsReferencePart payload.now v) 0 told
-        × (length told ≡ length (references v)) × (parts.new ≡ set_over told parts.old) }
+        → (reported : List Part) × EachAt (IsReferencePart payload.now v) 0 reported
+        × (length reported ≡ length (references v)) × (parts.new ≡ set_over reported parts.old) }
 {
     let first = usize::from(payload[1]);
     let count = usize::from(payload[2 + first]);
@@ -43,7 +43,7 @@ fn give_references(payload: &[u8], parts: &mut [NdefPart], count: &mut usize) ->
     let needed = 1 + usize::from(payload[2 + usize::from(payload[1])]);
     *count = needed;
     if parts.len() < needed {
-        return NO_ROOM;
+        return BUFFER_TOO_SMALL;
     }
     tell_references(payload, parts);
     OK

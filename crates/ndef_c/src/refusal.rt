@@ -20,12 +20,12 @@ pub(crate) fn refused_by(refusal: Refusal) -> NdefChecked
 }
 
 /// Writes a refusal, and returns the status of refused bytes.
-pub(crate) fn refuse(refusal: Refusal, why: &mut NdefChecked) -> u32
-    ensures place { why.new.place ≡ refusal.at }
-    ensures records { why.new.records ≡ 0 }
-    ensures reason { why.new.reason ≡ reason_number refusal.reason }
+pub(crate) fn refuse(refusal: Refusal, out: &mut NdefChecked) -> u32
+    ensures place { out.new.place ≡ refusal.at }
+    ensures records { out.new.records ≡ 0 }
+    ensures reason { out.new.reason ≡ reason_number refusal.reason }
     ensures refused { result ≡ REFUSED }
 {
-    *why = refused_by(refusal);
+    *out = refused_by(refusal);
     REFUSED
 }

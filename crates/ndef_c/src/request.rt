@@ -13,7 +13,7 @@ ghost use Rattle.ndef_c.specs.Handovers.{AreHandoverContents, IsRequestAt};
 ghost use Rattle.ndef_c.specs.Payloads.{RefusesWith};
 
 use crate::checking::NdefChecked;
-use crate::handover::{behind_version, version_of};
+use crate::handover::{after_version, version_of};
 use crate::limits::profile_of;
 use crate::nested::{alternatives_in, first_of};
 use crate::refusal::refuse;
@@ -67,7 +67,7 @@ fn request_at(payload: &[u8]) -> NdefRequest
     ensures { (profile : Profile) → IsNest tables.Request MOST_RECORDS profile payload.now
         → IsRequestAt profile payload.now result }
 {
-    let message = behind_version(payload);
+    let message = after_version(payload);
     let (major, minor) = version_of(payload);
     NdefRequest {
         carriers: alternatives_in(message),
@@ -84,15 +84,15 @@ pub extern "C" fn ndef_request(
     payload: &[u8],
     flags: u32,
     out: &mut NdefRequest,
-    why: &mut NdefChecked,
+    refusal: &mut NdefChecked,
 ) -> u32
     ensures bad { result ≡ BAD_ARGUMENT ↔ (1 < flags) }
     ensures known { (result ≡ OK) ⊎ (result ≡ REFUSED) ⊎ (result ≡ BAD_ARGUMENT) }
     ensures request { result ≡ OK → IsRequestAt (profile_of flags) payload.now out.new }
     ensures refused { result ≡ REFUSED → RefusesWith (IsNest tables.Request MOST_RECORDS (profile_of flags))
-        (NestReason tables.Request MOST_RECORDS (profile_of flags)) payload.now why.new }
+        (NestReason tables.Request MOST_RECORDS (profile_of flags)) payload.now refusal.new }
     ensures kept { result ≢ OK → out.new ≡ out.old }
-    ensures kept_why { result ≢ REFUSED → why.new ≡ why.old }
+    ensures kept_refusal { result ≢ REFUSED → refusal.new ≡ refusal.old }
 {
     if flags > 1 {
         return BAD_ARGUMENT;
@@ -102,6 +102,6 @@ pub extern "C" fn ndef_request(
             *out = request_at(payload);
             OK
         }
-        Err(refusal) => refuse(refusal, why),
+        Err(found) => refuse(found, refusal),
     }
 }

@@ -1,4 +1,4 @@
-//! A record at the front of some bytes, whatever these are.
+//! A record at the front of any bytes.
 ghost use Rattle.std.specs.Prelude.{◌≡◌, ◌≤◌, ◌<◌, ◌↔◌, length, IfNone, IfSome, IsTrue};
 ghost use Rattle.ndef_format.specs.Records.{IsInitial, IsLater};
 ghost use Rattle.ndef_format.specs.declared.profile.Profile.TheVariants.{Standard};

@@ -13,7 +13,7 @@ ghost use Rattle.ndef_c.specs.Handovers.{AreHandoverContents, IsSelectAt, TellsE
 ghost use Rattle.ndef_c.specs.Payloads.{RefusesWith};
 
 use crate::checking::NdefChecked;
-use crate::handover::{behind_version, version_of};
+use crate::handover::{after_version, version_of};
 use crate::limits::profile_of;
 use crate::nested::{alternatives_in, first_of};
 use crate::refusal::refuse;
@@ -28,7 +28,7 @@ use ndef_types::accept;
 pub struct NdefSelect {
     /// Its alternative carriers.
     pub carriers: usize,
-    /// Where the data of its error begins; 0 without one.
+    /// The offset of the data of its error; 0 without one.
     pub detail_at: usize,
     /// The bytes of that data; 0 without one.
     pub detail_length: usize,
@@ -49,7 +49,7 @@ struct Detail {
     has: u32,
     /// Its reason.
     reason: u32,
-    /// Where its data begins.
+    /// The offset of its data.
     at: usize,
     /// The bytes of its data.
     length: usize,
@@ -64,7 +64,7 @@ fn error_in(payload: &[u8]) -> Detail
         → (error : Option Item) × IsFirstOf (IsOfKind tables.Select kinds.Error) items error
         × TellsError payload.now error result.has result.reason result.at result.length }
 {
-    let Some(found) = first_of(Table::Select, behind_version(payload), Kind::Error) else {
+    let Some(found) = first_of(Table::Select, after_version(payload), Kind::Error) else {
         return Detail {
             has: 0,
             reason: 0,
@@ -90,7 +90,7 @@ fn select_at(payload: &[u8]) -> NdefSelect
     let (major, minor) = version_of(payload);
     let error = error_in(payload);
     NdefSelect {
-        carriers: alternatives_in(behind_version(payload)),
+        carriers: alternatives_in(after_version(payload)),
         detail_at: error.at,
         detail_length: error.length,
         major,
@@ -107,15 +107,15 @@ pub extern "C" fn ndef_select(
     payload: &[u8],
     flags: u32,
     out: &mut NdefSelect,
-    why: &mut NdefChecked,
+    refusal: &mut NdefChecked,
 ) -> u32
     ensures bad { result ≡ BAD_ARGUMENT ↔ (1 < flags) }
     ensures known { (result ≡ OK) ⊎ (result ≡ REFUSED) ⊎ (result ≡ BAD_ARGUMENT) }
     ensures select { result ≡ OK → IsSelectAt (profile_of flags) payload.now out.new }
     ensures refused { result ≡ REFUSED → RefusesWith (IsNest tables.Select MOST_RECORDS (profile_of flags))
-        (NestReason tables.Select MOST_RECORDS (profile_of flags)) payload.now why.new }
+        (NestReason tables.Select MOST_RECORDS (profile_of flags)) payload.now refusal.new }
     ensures kept { result ≢ OK → out.new ≡ out.old }
-    ensures kept_why { result ≢ REFUSED → why.new ≡ why.old }
+    ensures kept_refusal { result ≢ REFUSED → refusal.new ≡ refusal.old }
 {
     if flags > 1 {
         return BAD_ARGUMENT;
@@ -125,6 +125,6 @@ pub extern "C" fn ndef_select(
             *out = select_at(payload);
             OK
         }
-        Err(refusal) => refuse(refusal, why),
+        Err(found) => refuse(found, refusal),
     }
 }

@@ -1,19 +1,19 @@
-//! A message of several series of records, written to a room.
+//! A message of several series of records, written to a buffer.
 ghost use Rattle.std.specs.Prelude.{◌≡◌, ◌≢◌, ◌≤◌, ◌↔◌, ◌++◌, ◌∷◌, [], true, min, length, IfNone, IfSome};
 ghost use Rattle.std.specs.List.{All};
 ghost use Rattle.ndef_format.specs.Canonical.{canonical};
-ghost use Rattle.ndef_c.specs.Made.{IsMade, made_item};
-ghost use Rattle.ndef_c.specs.Rooms.{Gives, Puts};
-ghost use Rattle.ndef_c.specs.Series.{HoldsMade, IsSeries, IsWritten, MayBeMessage, all_items, left_octets, series_items};
+ghost use Rattle.ndef_c.specs.PendingRecord.{IsMade, made_item};
+ghost use Rattle.ndef_c.specs.Buffers.{Gives, Puts};
+ghost use Rattle.ndef_c.specs.RecordList.{HoldsMade, IsSeries, IsWritten, MayBeMessage, all_items, left_octets, series_items};
 
-use crate::making::{Ends, Made, put_made};
+use crate::making::{Ends, PendingRecord, put_pending_record};
 use crate::out::Out;
-use crate::series::{Series, series_count, series_made};
-use crate::status::{BAD_ARGUMENT, NO_ROOM, OK};
+use crate::record_list::{RecordList, series_count, series_made};
+use crate::status::{BAD_ARGUMENT, BUFFER_TOO_SMALL, OK};
 use ndef_message::short_is_canonical;
 use ndef_value::MOST_RECORDS;
 
-/// Where the next record of a message stands.
+/// The position of the next record of a message.
 #[derive(Clone, Copy)]
 pub(crate) struct Place {
     /// The records that aren't written yet.
@@ -22,19 +22,19 @@ pub(crate) struct Place {
     first: bool,
 }
 
-/// The number of records of all series, as far as a number of the machine says it.
-fn all_count(several: &[Series<'_>]) -> usize
+/// Returns the number of records of all series, at most the greatest `usize`.
+fn all_count(several: &[RecordList<'_>]) -> usize
     ensures { result ≡ min (length (all_items several.now)) 18446744073709551615 }
 {
     let mut count: usize = 0;
-    for series in several {
-        count = count.saturating_add(series_count(series));
+    for record_list in several {
+        count = count.saturating_add(series_count(record_list));
     }
     count
 }
 
 /// Writes a record at its place, and answers the place after it.
-fn put_next(out: &mut Out<'_>, place: Place, made: &Made<'_>) -> Place
+fn put_next(out: &mut Out<'_>, place: Place, made: &PendingRecord<'_>) -> Place
     requires made { IsMade made.now }
     requires left { 1 ≤ place.left }
     ensures { IsWritten place (made_item made.now ∷ []) out.old out.new result }
@@ -43,7 +43,7 @@ fn put_next(out: &mut Out<'_>, place: Place, made: &Made<'_>) -> Place
         first: place.first,
         last: place.left == 1,
     };
-    put_made(out, made, ends);
+    put_pending_record(out, made, ends);
     Place {
         left: place.left - 1,
         first: false,
@@ -51,23 +51,28 @@ fn put_next(out: &mut Out<'_>, place: Place, made: &Made<'_>) -> Place
 }
 
 /// Writes records at their place, and answers the place after them, if each may be written.
-fn put_series(out: &mut Out<'_>, place: Place, series: &Series<'_>) -> Option<Place>
-    requires holds { HoldsMade series.now }
-    requires left { length (series_items series.now) ≤ place.left }
-    ensures none { IfNone result (¬ IsSeries series.now) }
-    ensures may { IfSome result (λ _. IsSeries series.now) }
-    ensures some { IfSome result (IsWritten place (series_items series.now) out.old out.new) }
+fn put_series(out: &mut Out<'_>, place: Place, record_list: &RecordList<'_>) -> Option<Place>
+    requires holds { HoldsMade record_list.now }
+    requires left { length (series_items record_list.now) ≤ place.left }
+    ensures none { IfNone result (¬ IsSeries record_list.now) }
+    ensures may { IfSome result (λ _. IsSeries record_list.now) }
+    ensures some { IfSome result (IsWritten place (series_items record_list.now) out.old out.new) }
 {
     let mut next = place;
-    for index in 0..series_count(series) {
-        let made = series_made(series, index)?;
+    for index in 0..series_count(record_list) {
+        let made = series_made(record_list, index)?;
         next = put_next(out, next, &made);
     }
     Some(next)
 }
 
 /// Writes some bytes and the message of all records, `count` of them, if each may be written.
-fn put_message(out: &mut Out<'_>, front: &[u8], several: &[Series<'_>], count: usize) -> Option<()>
+fn put_message(
+    out: &mut Out<'_>,
+    front: &[u8],
+    several: &[RecordList<'_>],
+    count: usize,
+) -> Option<()>
     requires holds { All HoldsMade several.now }
     requires count { count ≡ length (all_items several.now) }
     ensures none { IfNone result (¬ All IsSeries several.now) }
@@ -80,26 +85,26 @@ fn put_message(out: &mut Out<'_>, front: &[u8], several: &[Series<'_>], count: u
         left: count,
         first: true,
     };
-    for series in several {
-        next = put_series(out, next, series)?;
+    for record_list in several {
+        next = put_series(out, next, record_list)?;
     }
     Some(())
 }
 
-/// Writes some bytes and the message of the records to the room where it is large enough, sets `count` to the number of
-/// bytes, and returns the status.
+/// Writes some bytes and the message of the records to the buffer where it is large enough, sets `count` to the number
+/// of bytes, and returns the status.
 pub(crate) fn give_message(
     front: &[u8],
-    several: &[Series<'_>],
-    room: &mut [u8],
+    several: &[RecordList<'_>],
+    buffer: &mut [u8],
     count: &mut usize,
 ) -> u32
     requires { All HoldsMade several.now }
     ensures bad { result ≡ BAD_ARGUMENT ↔ ¬ MayBeMessage front.now several.now }
-    ensures kept { result ≡ BAD_ARGUMENT → (room.new ≡ room.old) × (count.new ≡ count.old) }
+    ensures kept { result ≡ BAD_ARGUMENT → (buffer.new ≡ buffer.old) × (count.new ≡ count.old) }
     ensures may { result ≢ BAD_ARGUMENT → MayBeMessage front.now several.now }
     ensures message { result ≢ BAD_ARGUMENT
-        → Gives (front.now ++ canonical (all_items several.now)) room.old room.new count.new result }
+        → Gives (front.now ++ canonical (all_items several.now)) buffer.old buffer.new count.new result }
 {
     // For the proof alone.
     short_is_canonical();
@@ -116,9 +121,9 @@ pub(crate) fn give_message(
         return BAD_ARGUMENT;
     }
     *count = needed;
-    if room.len() < needed {
-        return NO_ROOM;
+    if buffer.len() < needed {
+        return BUFFER_TOO_SMALL;
     }
-    let _same = put_message(&mut Out::new(room, 0), front, several, records);
+    let _same = put_message(&mut Out::new(buffer, 0), front, several, records);
     OK
 }

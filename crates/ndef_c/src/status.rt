@@ -1,11 +1,11 @@
-//! What calls answer.
+//! The statuses that calls return.
 
 /// It is done.
 pub const OK: u32 = 0;
 /// The bytes are refused.
 pub const REFUSED: u32 = 1;
 /// The buffer is too small.
-pub const NO_ROOM: u32 = 2;
+pub const BUFFER_TOO_SMALL: u32 = 2;
 /// An argument isn't one of those that are allowed.
 pub const BAD_ARGUMENT: u32 = 3;
 /// There are no more records, references, links or fields.

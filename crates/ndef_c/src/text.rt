@@ -8,11 +8,11 @@ ghost use Rattle.ndef_c.specs.Payloads.{GivesFor, IsTextAt, RefusesWith};
 ghost use Rattle.ndef_c.specs.Contents.{IsContent, content_octets};
 ghost use Rattle.ndef_c.specs.Texts.{GivesText, MayBeSpelled, MayBeText, asked_text};
 
+use crate::buffer::give;
 use crate::checking::NdefChecked;
 use crate::content::{Content, give_content};
 use crate::refusal::refuse;
-use crate::room::give;
-use crate::status::{BAD_ARGUMENT, NO_ROOM, OK, REFUSED};
+use crate::status::{BAD_ARGUMENT, BUFFER_TOO_SMALL, OK, REFUSED};
 use crate::utf16::give_in_utf8;
 use ndef_lang::{Kind, Leaf};
 use ndef_types::{Encoding, TextParts, accept, texts_are_exact, unmark};
@@ -22,11 +22,11 @@ use ndef_value::Profile;
 #[repr(C)]
 #[derive(Clone, Copy, Drop)]
 pub struct NdefText {
-    /// Where the language code begins.
+    /// The offset of the language code.
     pub language_at: usize,
     /// The bytes of the language code, at most 63.
     pub language_length: usize,
-    /// Where the text begins.
+    /// The offset of the text.
     pub text_at: usize,
     /// The bytes of the text.
     pub text_length: usize,
@@ -44,7 +44,7 @@ fn utf16_flag(encoding: Encoding) -> u32
     }
 }
 
-/// Where the parts of a text lie in its payload.
+/// Returns the offsets and lengths of the parts of a text in its payload.
 pub(crate) fn text_at(payload: &[u8]) -> NdefText
     requires text { IsText payload.now }
     requires short { length payload.now < 2 ^ 32 }
@@ -63,36 +63,36 @@ pub(crate) fn text_at(payload: &[u8]) -> NdefText
 
 /// Gives the offsets of the parts of the text that the payload of a Text record holds.
 #[unsafe(no_mangle)]
-pub extern "C" fn ndef_text(payload: &[u8], out: &mut NdefText, why: &mut NdefChecked) -> u32
+pub extern "C" fn ndef_text(payload: &[u8], out: &mut NdefText, refusal: &mut NdefChecked) -> u32
     ensures known { (result ≡ OK) ⊎ (result ≡ REFUSED) }
     ensures text { result ≡ OK → IsTextAt payload.now out.new }
-    ensures refused { result ≡ REFUSED → RefusesWith IsText TextReason payload.now why.new }
+    ensures refused { result ≡ REFUSED → RefusesWith IsText TextReason payload.now refusal.new }
     ensures kept { result ≡ REFUSED → out.new ≡ out.old }
-    ensures kept_why { result ≡ OK → why.new ≡ why.old }
+    ensures kept_refusal { result ≡ OK → refusal.new ≡ refusal.old }
 {
     match accept::<Leaf>(Kind::Text, Profile::Strict, payload) {
         Ok(()) => {
             *out = text_at(payload);
             OK
         }
-        Err(refusal) => refuse(refusal, why),
+        Err(found) => refuse(found, refusal),
     }
 }
 
-/// Writes the text for which a payload stands to the room in UTF-8.
-fn give_text(payload: &[u8], room: &mut [u8], count: &mut usize) -> u32
+/// Writes the text of a payload to the buffer in UTF-8.
+fn give_text(payload: &[u8], buffer: &mut [u8], count: &mut usize) -> u32
     requires text { IsText payload.now }
     requires short { length payload.now < 2 ^ 32 }
-    ensures { GivesText payload.now room.old room.new count.new result }
+    ensures { GivesText payload.now buffer.old buffer.new count.new result }
 {
     // For the proof alone.
     texts_are_exact();
     let parts = TextParts::new(payload);
     match parts.encoding() {
-        Encoding::Utf8 => give(parts.octets(), room, count),
+        Encoding::Utf8 => give(parts.octets(), buffer, count),
         Encoding::Utf16 => {
             let (little, octets) = unmark(parts.octets());
-            give_in_utf8(little, octets, room, count)
+            give_in_utf8(little, octets, buffer, count)
         }
     }
 }
@@ -102,23 +102,23 @@ fn give_text(payload: &[u8], room: &mut [u8], count: &mut usize) -> u32
 #[unsafe(no_mangle)]
 pub extern "C" fn ndef_text_in_utf8(
     payload: &[u8],
-    room: &mut [u8],
+    buffer: &mut [u8],
     count: &mut usize,
-    why: &mut NdefChecked,
+    refusal: &mut NdefChecked,
 ) -> u32
-    ensures known { (result ≡ OK) ⊎ (result ≡ NO_ROOM) ⊎ (result ≡ REFUSED) }
-    ensures refused { result ≡ REFUSED → RefusesWith IsText TextReason payload.now why.new }
-    ensures text { result ≢ REFUSED → GivesText payload.now room.old room.new count.new result }
-    ensures kept { result ≡ REFUSED → (room.new ≡ room.old) × (count.new ≡ count.old) }
-    ensures kept_why { result ≢ REFUSED → why.new ≡ why.old }
+    ensures known { (result ≡ OK) ⊎ (result ≡ BUFFER_TOO_SMALL) ⊎ (result ≡ REFUSED) }
+    ensures refused { result ≡ REFUSED → RefusesWith IsText TextReason payload.now refusal.new }
+    ensures text { result ≢ REFUSED → GivesText payload.now buffer.old buffer.new count.new result }
+    ensures kept { result ≡ REFUSED → (buffer.new ≡ buffer.old) × (count.new ≡ count.old) }
+    ensures kept_refusal { result ≢ REFUSED → refusal.new ≡ refusal.old }
 {
     match accept::<Leaf>(Kind::Text, Profile::Strict, payload) {
-        Ok(()) => give_text(payload, room, count),
-        Err(refusal) => refuse(refusal, why),
+        Ok(()) => give_text(payload, buffer, count),
+        Err(found) => refuse(found, refusal),
     }
 }
 
-/// What is written for a text, which is given in UTF-8, if the numbers and its parts may be so.
+/// Returns the content of a text, which is given in UTF-8, if the numbers and its parts may be written.
 pub(crate) fn text_content<'a>(
     language: &'a [u8],
     text: &'a [u8],
@@ -148,16 +148,16 @@ pub extern "C" fn ndef_write_text(
     language: &[u8],
     text: &[u8],
     flags: u32,
-    room: &mut [u8],
+    buffer: &mut [u8],
     count: &mut usize,
 ) -> u32
     ensures bad { result ≡ BAD_ARGUMENT ↔ ¬ MayBeText flags language.now text.now }
-    ensures kept { result ≡ BAD_ARGUMENT → (room.new ≡ room.old) × (count.new ≡ count.old) }
+    ensures kept { result ≡ BAD_ARGUMENT → (buffer.new ≡ buffer.old) × (count.new ≡ count.old) }
     ensures payload { MayBeText flags language.now text.now
-        → GivesFor WritesText (asked_text flags language.now text.now) room.old room.new count.new result }
+        → GivesFor WritesText (asked_text flags language.now text.now) buffer.old buffer.new count.new result }
 {
     let Some(content) = text_content(language, text, flags) else {
         return BAD_ARGUMENT;
     };
-    give_content(&content, room, count)
+    give_content(&content, buffer, count)
 }

@@ -16,8 +16,8 @@ ghost use Rattle.ndef_c.specs.Walks.{IsRecordAt, Lies};
 use crate::handover::is_nest;
 use crate::nested::first_of;
 use crate::part::NdefPart;
+use crate::query::{Expected, RecordQuery, give_all};
 use crate::record::{NdefRecord, part_in, tnf_in, type_in};
-use crate::sought::{Sought, Wanted, give_all};
 use crate::status::{BAD_ARGUMENT, END, OK};
 use crate::text::{NdefText, text_at};
 use crate::walk::Walk;
@@ -42,7 +42,7 @@ fn is_title(tnf: Tnf, kind: &[u8]) -> bool
     }
 }
 
-/// Where the parts of a text lie, which is the payload of a record in one piece.
+/// Returns the places of the parts of a text, which is the payload of a record in one piece.
 fn text_of(bytes: &[u8], found: &NdefRecord) -> NdefText
     requires text { (at : ℕ) × (r : IsRecordAt bytes.now at found.now) × IsText r.run.initial.payload }
     requires bound { length bytes.now < 2 ^ 32 }
@@ -65,17 +65,17 @@ struct Titles<'a> {
     payload: &'a [u8],
 }
 
-impl<'a> Wanted for Titles<'a> {
-    ghost wanted = { λ tnf kind. is_text (kind_in tables.SmartPoster tnf kind) };
+impl<'a> Expected for Titles<'a> {
+    ghost expected = { λ tnf kind. is_text (kind_in tables.SmartPoster tnf kind) };
 
-    fn is_wanted(tnf: Tnf, kind: &[u8]) -> bool
+    fn is_expected(tnf: Tnf, kind: &[u8]) -> bool
         ensures { result ≡ is_text (kind_in tables.SmartPoster tnf kind.now) }
     {
         is_title(tnf, kind)
     }
 }
 
-impl<'a> Sought for Titles<'a> {
+impl<'a> RecordQuery for Titles<'a> {
     type Given = NdefText;
 
     ghost octets = { λ titles. titles.payload.now };
@@ -97,7 +97,7 @@ impl<'a> Sought for Titles<'a> {
     }
 }
 
-/// Gives the place of each title, where there is room for them, and their number.
+/// Writes the place of each title, if the array is large enough, and their number.
 fn give_titles(payload: &[u8], texts: &mut [NdefText], count: &mut usize) -> u32
     requires { IsPosterPayload payload.now }
     ensures { GivesTitles payload.now texts.old texts.new count.new result }
@@ -155,7 +155,7 @@ fn is_language(bytes: &[u8], text: &NdefText, language: &[u8]) -> bool
     bytes[text.language_at..end].eq_ignore_ascii_case(language)
 }
 
-/// Where the first title in a language lies.
+/// Returns the place of the first title in a language.
 fn title_in(payload: &[u8], language: &[u8]) -> Option<NdefText>
     requires { IsPosterPayload payload.now }
     ensures none { IfNone result (PosterLacks (IsTitleIn language.now) payload.now) }

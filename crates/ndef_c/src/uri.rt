@@ -7,27 +7,27 @@ ghost use Rattle.ndef_types.specs.Decoding.{IsTooLong};
 ghost use Rattle.ndef_types.specs.Values.{StandsForUri, WritesUri};
 ghost use Rattle.ndef_c.specs.Checks.{profile_of};
 ghost use Rattle.ndef_c.specs.Payloads.{GivesFor, GivesUri, RefusesWith};
-ghost use Rattle.ndef_c.specs.Rooms.{Gives};
+ghost use Rattle.ndef_c.specs.Buffers.{Gives};
 
+use crate::buffer::give_parts;
 use crate::checking::NdefChecked;
 use crate::content::{Content, give_content};
 use crate::limits::profile_of;
 use crate::refusal::refuse;
-use crate::room::give_parts;
 use crate::status::{BAD_ARGUMENT, REFUSED};
 use ndef_lang::{Kind, Leaf};
 use ndef_types::{accept, prefix, split};
 
-/// Writes the URI for which a payload stands to the room.
-fn give_uri(payload: &[u8], room: &mut [u8], count: &mut usize) -> u32
+/// Writes the URI of a payload to the buffer.
+fn give_uri(payload: &[u8], buffer: &mut [u8], count: &mut usize) -> u32
     requires uri { (profile : Profile) × IsUri profile payload.now }
     requires short { length payload.now < 2 ^ 32 }
-    ensures { (uri : List ℕ) × StandsForUri payload.now uri × Gives uri room.old room.new count.new result }
+    ensures { (uri : List ℕ) × StandsForUri payload.now uri × Gives uri buffer.old buffer.new count.new result }
 {
     let [code, rest @ ..] = payload else {
         unreachable!()
     };
-    give_parts(&[], prefix(*code).as_bytes(), rest, room, count)
+    give_parts(&[], prefix(*code).as_bytes(), rest, buffer, count)
 }
 
 /// Writes the URI that the payload of a URI record holds, its prefix written out, to the buffer.
@@ -35,38 +35,38 @@ fn give_uri(payload: &[u8], room: &mut [u8], count: &mut usize) -> u32
 pub extern "C" fn ndef_uri(
     payload: &[u8],
     flags: u32,
-    room: &mut [u8],
+    buffer: &mut [u8],
     count: &mut usize,
-    why: &mut NdefChecked,
+    refusal: &mut NdefChecked,
 ) -> u32
     ensures bad { result ≡ BAD_ARGUMENT ↔ (1 < flags) }
     ensures refused { result ≡ REFUSED
-        → RefusesWith (IsUri (profile_of flags)) (UriReason (profile_of flags)) payload.now why.new }
+        → RefusesWith (IsUri (profile_of flags)) (UriReason (profile_of flags)) payload.now refusal.new }
     ensures uri { result ≢ BAD_ARGUMENT → result ≢ REFUSED
-        → GivesUri (profile_of flags) payload.now room.old room.new count.new result }
-    ensures kept { (result ≡ BAD_ARGUMENT) ⊎ (result ≡ REFUSED) → (room.new ≡ room.old) × (count.new ≡ count.old) }
-    ensures kept_why { result ≢ REFUSED → why.new ≡ why.old }
+        → GivesUri (profile_of flags) payload.now buffer.old buffer.new count.new result }
+    ensures kept { (result ≡ BAD_ARGUMENT) ⊎ (result ≡ REFUSED) → (buffer.new ≡ buffer.old) × (count.new ≡ count.old) }
+    ensures kept_refusal { result ≢ REFUSED → refusal.new ≡ refusal.old }
 {
     if flags > 1 {
         return BAD_ARGUMENT;
     }
     match accept::<Leaf>(Kind::Uri, profile_of(flags), payload) {
-        Ok(()) => give_uri(payload, room, count),
-        Err(refusal) => refuse(refusal, why),
+        Ok(()) => give_uri(payload, buffer, count),
+        Err(found) => refuse(found, refusal),
     }
 }
 
 /// Writes the payload of a URI record, by the longest prefix that begins the URI, to the buffer.
 #[unsafe(no_mangle)]
-pub extern "C" fn ndef_write_uri(uri: &[u8], room: &mut [u8], count: &mut usize) -> u32
+pub extern "C" fn ndef_write_uri(uri: &[u8], buffer: &mut [u8], count: &mut usize) -> u32
     ensures bad { result ≡ BAD_ARGUMENT → (¬ IsUtf8 uri.now) ⊎ IsTooLong WritesUri uri.now }
-    ensures kept { result ≡ BAD_ARGUMENT → (room.new ≡ room.old) × (count.new ≡ count.old) }
+    ensures kept { result ≡ BAD_ARGUMENT → (buffer.new ≡ buffer.old) × (count.new ≡ count.old) }
     ensures utf8 { result ≢ BAD_ARGUMENT → IsUtf8 uri.now }
-    ensures payload { result ≢ BAD_ARGUMENT → GivesFor WritesUri uri.now room.old room.new count.new result }
+    ensures payload { result ≢ BAD_ARGUMENT → GivesFor WritesUri uri.now buffer.old buffer.new count.new result }
 {
     let Ok(text) = simdutf8::basic::from_utf8(uri) else {
         return BAD_ARGUMENT;
     };
     let (code, rest) = split(text);
-    give_content(&Content::Uri { code, rest }, room, count)
+    give_content(&Content::Uri { code, rest }, buffer, count)
 }

@@ -3,11 +3,11 @@ ghost use Rattle.std.specs.Prelude.{◌≡◌, ◌+◌, ◌<◌, ◌≤◌, ◌^
 ghost use Rattle.std.specs.Char.{InScalarRange};
 ghost use Rattle.std.specs.Char.Escape.{encode_utf16};
 ghost use Rattle.ndef_format.specs.Texts.{spelled, unit_octets, units_of};
-ghost use Rattle.ndef_c.specs.Rooms.{Gives, Puts};
+ghost use Rattle.ndef_c.specs.Buffers.{Gives, Puts};
 ghost use Rattle.ndef_c.specs.Texts.{AreSpelled};
 
 use crate::out::Out;
-use crate::status::{NO_ROOM, OK};
+use crate::status::{BUFFER_TOO_SMALL, OK};
 
 /// The unit of two octets.
 fn unit_of(little: bool, first: u8, second: u8) -> u32
@@ -59,9 +59,9 @@ fn first_character(little: bool, octets: &[u8]) -> (char, &[u8])
     if !is_surrogate(unit) {
         return (character(unit), rest);
     }
-    let (low, behind) = first_unit(little, rest);
+    let (low, following) = first_unit(little, rest);
     let code = 0x10000 + (unit - 0xd800) * 0x400 + (low - 0xdc00);
-    (character(code), behind)
+    (character(code), following)
 }
 
 /// Writes the text that the octets spell in UTF-8.
@@ -71,28 +71,28 @@ fn put_in_utf8(out: &mut Out<'_>, little: bool, octets: &[u8])
 {
     let mut rest = octets;
     while !rest.is_empty() {
-        let (c, behind) = first_character(little, rest);
+        let (c, following) = first_character(little, rest);
         let mut buffer = [0; 4];
         out.put(c.encode_utf8(&mut buffer).as_bytes());
-        rest = behind;
+        rest = following;
     }
 }
 
-/// Writes the text that the octets spell to the room in UTF-8 where it is large enough, sets `count` to its number of
+/// Writes the text that the octets spell to the buffer in UTF-8 where it is large enough, sets `count` to its number of
 /// bytes, and returns the status.
-pub(crate) fn give_in_utf8(little: bool, octets: &[u8], room: &mut [u8], count: &mut usize) -> u32
+pub(crate) fn give_in_utf8(little: bool, octets: &[u8], buffer: &mut [u8], count: &mut usize) -> u32
     requires text { (cs : List ℕ) × AreSpelled little cs octets.now }
     requires short { length octets.now < 2 ^ 32 }
     ensures { (cs : List ℕ) → AreSpelled little cs octets.now
-        → Gives (encode_utf8_all cs) room.old room.new count.new result }
+        → Gives (encode_utf8_all cs) buffer.old buffer.new count.new result }
 {
     let mut counter = Out::new(&mut [], 0);
     put_in_utf8(&mut counter, little, octets);
     *count = counter.at();
-    if room.len() < *count {
-        return NO_ROOM;
+    if buffer.len() < *count {
+        return BUFFER_TOO_SMALL;
     }
-    put_in_utf8(&mut Out::new(room, 0), little, octets);
+    put_in_utf8(&mut Out::new(buffer, 0), little, octets);
     OK
 }
 

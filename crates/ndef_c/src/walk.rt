@@ -1,4 +1,4 @@
-//! The records with which some bytes begin, one after another, whatever these bytes are.
+//! The records with which any bytes begin, one after another.
 ghost use Rattle.std.specs.Prelude.{◌≡◌, ◌-◌, false, length};
 ghost use Rattle.std.specs.Iterator.{at_most};
 ghost use Rattle.ndef_c.specs.Walks.{WalksOn};
@@ -11,7 +11,7 @@ use crate::record::{NdefRecord, record_at};
 pub(crate) struct Walk<'a> {
     /// The bytes in which they lie.
     bytes: &'a [u8],
-    /// Where the next one would begin.
+    /// The offset at which the next one would begin.
     at: usize,
     /// Whether the message has ended.
     ended: bool,

@@ -27,7 +27,7 @@ pub struct NdefWriter {
     pub head: u32,
 }
 
-/// The plan of the record that is asked for.
+/// Returns the plan of the record that is requested.
 fn plan_of(how: &NdefWriting, kind: usize, id: usize, payload: usize) -> Option<RecordPlan>
     ensures none { IsNone result → ¬ MayBegin how.now (record { kind = kind; id = id; payload = payload }) }
     ensures some { IfSome result (λ p. p ≡ asked_plan how.now (record { kind = kind; id = id; payload = payload })) }
@@ -122,7 +122,7 @@ pub extern "C" fn ndef_writer_begin(
 /// - `OK`: `*count` bytes were written. Where they do not fill the buffer, the whole part was taken, and either more of
 ///   the payload is needed (`*count` may then be 0) or the record is whole.
 /// - `END`: the record is whole.
-/// - `BAD_ARGUMENT`: the part is longer than what is left of the payload; the type or the id has another length than
+/// - `BAD_ARGUMENT`: the part is longer than the rest of the payload; the type or the id has another length than
 ///   `ndef_writer_begin` was given; the writer holds what these calls never write.
 #[unsafe(no_mangle)]
 pub extern "C" fn ndef_writer_next(
@@ -130,7 +130,7 @@ pub extern "C" fn ndef_writer_next(
     kind: &[u8],
     id: &[u8],
     part: &[u8],
-    room: &mut [u8],
+    buffer: &mut [u8],
     count: &mut usize,
 ) -> u32
     ensures bad { result ≡ BAD_ARGUMENT
@@ -138,15 +138,15 @@ pub extern "C" fn ndef_writer_next(
     ensures end { (rest : List ℕ) → MayGoOn writer.old (record { kind = kind.now; id = id.now; part = part.now })
         → AreLeft (begun_of writer.old) kind.now id.now rest
         → result ≡ END ↔ LeavesNothing (begun_of writer.old) kind.now id.now rest }
-    ensures kept { result ≢ OK → (writer.new ≡ writer.old) × (room.new ≡ room.old) × (count.new ≡ count.old) }
+    ensures kept { result ≢ OK → (writer.new ≡ writer.old) × (buffer.new ≡ buffer.old) × (count.new ≡ count.old) }
     ensures written { result ≢ BAD_ARGUMENT → result ≢ END → (result ≡ OK) × MovesOn writer.old
-        (record { kind = kind.now; id = id.now; part = part.now }) room.old room.new count.new writer.new }
+        (record { kind = kind.now; id = id.now; part = part.now }) buffer.old buffer.new count.new writer.new }
 {
     let Some(mut encoder) = encoder_of(writer) else {
         return BAD_ARGUMENT;
     };
     let whole = encoder.is_whole();
-    let Ok(written) = encoder.next(kind, id, part, room) else {
+    let Ok(written) = encoder.next(kind, id, part, buffer) else {
         return BAD_ARGUMENT;
     };
     if whole {

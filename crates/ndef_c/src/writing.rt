@@ -7,13 +7,13 @@ ghost use Rattle.ndef_format.specs.declared.tnf.Tnf.TheVariants.{Unchanged};
 ghost use Rattle.ndef_piece.specs.Heads.{written_fields};
 ghost use Rattle.ndef_message.specs.Cut.{first_piece};
 ghost use Rattle.ndef_message.specs.Written.{is_short};
-ghost use Rattle.ndef_c.specs.Made.{item_with};
-ghost use Rattle.ndef_c.specs.Rooms.{Gives, Puts};
+ghost use Rattle.ndef_c.specs.PendingRecord.{item_with};
+ghost use Rattle.ndef_c.specs.Buffers.{Gives, Puts};
 ghost use Rattle.ndef_c.specs.Writes.{item_of, octets_by, octets_of_piece, asked, asked_octets, is_first, is_last, form_of, size_of, LastBegins, MayBeWritten};
 
 use crate::making::Ends;
 use crate::out::Out;
-use crate::status::{BAD_ARGUMENT, NO_ROOM, OK};
+use crate::status::{BAD_ARGUMENT, BUFFER_TOO_SMALL, OK};
 use ndef_message::{Form, Standing, first_part, later_head};
 use ndef_piece::{Head, write_head};
 use ndef_value::Tnf;
@@ -39,9 +39,9 @@ pub(crate) struct Parts<'a> {
     payload: &'a [u8],
 }
 
-/// Where a record stands, and how it is written.
+/// The position of a record in its message, and the way in which it is written.
 #[derive(Clone, Copy)]
-pub(crate) struct Way {
+pub(crate) struct Placement {
     pub(crate) first: bool,
     pub(crate) last: bool,
     pub(crate) form: Form,
@@ -141,7 +141,7 @@ pub(crate) fn put_piece(out: &mut Out<'_>, head: &Head, kind: &[u8], id: &[u8], 
 
 /// Writes a record so, and answers where its last piece begins.
 #[inline(always)]
-pub(crate) fn put_record(out: &mut Out<'_>, parts: &Parts<'_>, way: Way) -> usize
+pub(crate) fn put_record(out: &mut Out<'_>, parts: &Parts<'_>, way: Placement) -> usize
     requires lengths { HasLengths (item_of parts.now) }
     requires some { 1 ≤ way.size }
     requires place { out.old.at < 2 ^ 63 }
@@ -150,12 +150,12 @@ pub(crate) fn put_record(out: &mut Out<'_>, parts: &Parts<'_>, way: Way) -> usiz
     ensures last { (at : ℕ) × LastBegins way.form way.first way.last (Some way.size) (item_of parts.now) at
         × (result ≡ out.old.at + at) }
 {
-    let (part, behind) = first_part(parts.payload, way.size);
+    let (part, following) = first_part(parts.payload, way.size);
     let ends = Ends {
         first: way.first,
         last: way.last,
     };
-    let alone = behind.is_empty();
+    let alone = following.is_empty();
     let head = first_head(
         parts.tnf,
         parts.kind,
@@ -167,7 +167,7 @@ pub(crate) fn put_record(out: &mut Out<'_>, parts: &Parts<'_>, way: Way) -> usiz
     );
     let mut last = out.at();
     put_piece(out, &head, parts.kind, parts.id, part);
-    let mut rest = behind;
+    let mut rest = following;
     while !rest.is_empty() {
         let (part, later) = first_part(rest, way.size);
         let head = later_head(way.last, later.is_empty(), way.form, part.len());
@@ -178,14 +178,14 @@ pub(crate) fn put_record(out: &mut Out<'_>, parts: &Parts<'_>, way: Way) -> usiz
     last
 }
 
-/// Where a record stands, and how it is written, as the numbers say.
-pub(crate) fn way_of(how: &NdefWriting) -> Way
+/// Returns the position of a record, and the way in which it is written, from the numbers.
+pub(crate) fn way_of(how: &NdefWriting) -> Placement
     ensures first { result.first ≡ is_first how.now }
     ensures last { result.last ≡ is_last how.now }
     ensures form { result.form ≡ form_of how.now }
     ensures size { result.size ≡ unwrap_or (size_of how.now) 4294967295 }
 {
-    Way {
+    Placement {
         first: how.flags % 2 == 1,
         last: how.flags / 2 % 2 == 1,
         form: if how.flags >= 4 {
@@ -201,7 +201,7 @@ pub(crate) fn way_of(how: &NdefWriting) -> Way
     }
 }
 
-/// The parts of a record that is asked for, if it may be written.
+/// Returns the parts of a record that is requested, if it may be written.
 pub(crate) fn asked_parts<'a>(
     kind: &'a [u8],
     id: &'a [u8],
@@ -235,14 +235,14 @@ pub extern "C" fn ndef_write_record(
     id: &[u8],
     payload: &[u8],
     how: &NdefWriting,
-    room: &mut [u8],
+    buffer: &mut [u8],
     count: &mut usize,
 ) -> u32
     ensures bad { result ≡ BAD_ARGUMENT ↔ ¬ MayBeWritten how.now (asked how.now kind.now id.now payload.now) }
-    ensures kept { result ≡ BAD_ARGUMENT → (room.new ≡ room.old) × (count.new ≡ count.old) }
+    ensures kept { result ≡ BAD_ARGUMENT → (buffer.new ≡ buffer.old) × (count.new ≡ count.old) }
     ensures written { MayBeWritten how.now (asked how.now kind.now id.now payload.now)
         → Gives (asked_octets how.now (asked how.now kind.now id.now payload.now))
-        room.old room.new count.new result }
+        buffer.old buffer.new count.new result }
 {
     let Some(parts) = asked_parts(kind, id, payload, how) else {
         return BAD_ARGUMENT;
@@ -251,9 +251,9 @@ pub extern "C" fn ndef_write_record(
     let mut counter = Out::new(&mut [], 0);
     let _last = put_record(&mut counter, &parts, way);
     *count = counter.at();
-    if room.len() < *count {
-        return NO_ROOM;
+    if buffer.len() < *count {
+        return BUFFER_TOO_SMALL;
     }
-    let _last = put_record(&mut Out::new(room, 0), &parts, way);
+    let _last = put_record(&mut Out::new(buffer, 0), &parts, way);
     OK
 }

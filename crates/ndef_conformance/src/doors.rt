@@ -1,18 +1,18 @@
-//! What bytes are answered at every door of the library: checked, decoded, read and viewed, whole, in
+//! The answers to bytes at every door of the library: checked, decoded, read and viewed, whole, in
 //! each two parts and byte by byte.
 ghost use Rattle.std.specs.Prelude.{◌<◌};
 
-use ndef_cases::case::Answer;
-use ndef_cases::streams::SlowReader;
 use ndef_lang::RecordLanguage;
 use ndef_message::{
     CheckError, Checker, Decoder, Event, Fed, ReadError, SliceSource, Source, StdSource,
     check_message, read_message, view,
 };
+use ndef_tests::case::Answer;
+use ndef_tests::streams::SlowReader;
 use ndef_value::Limits;
 use std::alloc::Global;
 
-/// How bytes are handed over: `first` of them, then the others in parts of at most `size`.
+/// The way in which bytes are handed over: `first` of them, then the others in parts of at most `size`.
 #[derive(Clone, Copy)]
 pub(super) struct Parts {
     first: usize,
@@ -55,7 +55,7 @@ fn cut_at(bytes: &[u8], place: usize) -> (&[u8], &[u8]) {
     bytes.split_at(place.min(bytes.len()))
 }
 
-/// What a checker answers to one part more, if it answers.
+/// Returns the answer of a checker to one more part, if there is one.
 fn fed<L: RecordLanguage>(checker: &mut Checker<L>, part: &[u8]) -> Option<Answer> {
     match checker.feed(part) {
         Fed::More => None,
@@ -64,7 +64,7 @@ fn fed<L: RecordLanguage>(checker: &mut Checker<L>, part: &[u8]) -> Option<Answe
     }
 }
 
-/// What a checker answers; nothing where it doesn't take what ends to have ended.
+/// Returns the answer of a checker; None if its `end` accepts a message that hasn't ended.
 pub(super) fn checked<L: RecordLanguage>(
     limits: Limits,
     bytes: &[u8],
@@ -83,7 +83,7 @@ pub(super) fn checked<L: RecordLanguage>(
     Some(Err(checker.end().err()?))
 }
 
-/// What a decoder answers to a part that it is given.
+/// The answer of a decoder to a part that it is given.
 #[derive(Clone, Copy)]
 enum Progress {
     GoesOn,
@@ -118,7 +118,7 @@ fn hand_parts<L: RecordLanguage>(decoder: &mut Decoder<L>, bytes: &[u8], parts: 
     progress
 }
 
-/// What a decoder answers; nothing where memory runs out, or where it says that the message hasn't ended where it ends.
+/// Returns the answer of a decoder; None if memory runs out, or if its `end` accepts a message that hasn't ended.
 pub(super) fn decoded<L: RecordLanguage>(
     alloc: Global,
     limits: Limits,
@@ -153,7 +153,7 @@ fn check_from<L: RecordLanguage, S: Source>(limits: Limits, source: &mut S) -> O
     }
 }
 
-/// What reading answers, from a source that shows the bytes whole.
+/// Returns the answer of reading, from a source that shows the bytes whole.
 pub(super) fn read_whole<L: RecordLanguage>(
     alloc: Global,
     limits: Limits,
@@ -162,7 +162,7 @@ pub(super) fn read_whole<L: RecordLanguage>(
     read_from::<L, _>(alloc, limits, &mut SliceSource::whole(bytes))
 }
 
-/// What a view answers, which looks at the bytes whole.
+/// Returns the answer of a view, which looks at the bytes whole.
 pub(super) fn viewed<L: RecordLanguage>(limits: Limits, bytes: &[u8]) -> Option<Answer> {
     Some(view::<L>(bytes, limits).map(|view| view.taken()))
 }

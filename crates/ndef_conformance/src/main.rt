@@ -1,22 +1,43 @@
-//! Reads cases, one a line, runs each through every door of the library, and prints those that are answered otherwise.
+//! Reads cases, one a line, and prints those that the library answers otherwise. Bytes are run through every door of
+//! the library; payloads are read as values, records written, and the carriers found that a message names.
 #![tactic(auto)]
 
 use std::alloc::Global;
 use std::io::{self, BufRead, BufReader};
 
 mod doors;
+mod encoding;
+mod links;
 mod suite;
+mod values;
 
-use suite::wrong_with;
+use suite::{Wrong, wrong_with};
 
 /// Whether a line has a case: empty lines and remarks have none.
 fn is_case(line: &str) -> bool {
     !line.trim().is_empty() && !line.starts_with('#')
 }
 
-/// What is wrong with the case of a line, if anything is.
-fn wrong_in_line(alloc: Global, line: &str) -> Option<&'static str> {
-    wrong_with(alloc, line).unwrap_or(Some("this can't be read"))
+/// Returns the fault of a line that has to be right; None if it can't be read.
+fn wrong_unless(is_right: Option<bool>) -> Option<Wrong> {
+    Some(if is_right? {
+        None
+    } else {
+        Some("another value")
+    })
+}
+
+/// Returns the fault of the case of a line, if there is one. Its id names its file of conformance/.
+fn wrong_in_line(alloc: Global, line: &str) -> Wrong {
+    let wrong = match line.split_once('-') {
+        Some(("encode", _)) => wrong_unless(encoding::is_written(alloc, line)),
+        Some(("link", _)) => wrong_unless(links::are_linked(alloc, line)),
+        Some((_, rest)) if rest.starts_with("value-") => {
+            wrong_unless(values::is_reported(alloc, line))
+        }
+        _ => wrong_with(alloc, line),
+    };
+    wrong.unwrap_or(Some("this can't be read"))
 }
 
 fn main(rt: HostRuntime) -> io::Result<()> {

@@ -1,15 +1,15 @@
 //! Cases, each run through every door: all have to give its one answer.
 use super::doors::{is_agreed, is_answered, is_held, step_of};
-use ndef_cases::case::{Case, case_of, is_in};
-use ndef_cases::records::{are_shown, are_told};
 use ndef_lang::{Kind, Language, Leaf, Opaque, RecordLanguage};
 use ndef_message::{SliceSource, StdSink, read_message, view};
 use ndef_nest::Typed;
+use ndef_tests::case::{Case, case_of, is_in};
+use ndef_tests::records::{are_reported, are_shown};
 use ndef_tool::run;
 use ndef_value::{Limits, Message, Profile, Reason, Refusal};
 use std::alloc::Global;
 
-/// What is wrong with a case, if anything is.
+/// The fault of a case, if there is one.
 pub(super) type Wrong = Option<&'static str>;
 
 /// The most bytes of an accepted message of which each is replaced by each other.
@@ -29,11 +29,11 @@ fn has_records<L: RecordLanguage>(
     message: &Message,
 ) -> Option<bool> {
     let view = view::<L>(case.bytes.as_slice(), case.limits).ok()?;
-    Some(are_told(alloc, case.records, message)? && are_shown(alloc, case.records, &view)?)
+    Some(are_reported(alloc, case.records, message)? && are_shown(alloc, case.records, &view)?)
 }
 
-/// Whether the quick test says of each payload that it is one of its type. No contract asks for that: a test
-/// that always says no is right too, but slow.
+/// Whether the quick test finds that each payload is one of its type. No contract demands that: a test
+/// that always returns false is right too, but slow.
 fn are_seen_at_once<L: RecordLanguage>(limits: Limits, message: &Message) -> bool {
     for record in message.records() {
         let (tnf, name) = (record.tnf(), record.kind());
@@ -108,7 +108,7 @@ fn agree_near<L: RecordLanguage>(alloc: Global, limits: Limits, bytes: &[u8]) ->
     Some(true)
 }
 
-/// What is wrong with an accepted case, if anything is.
+/// Returns the fault of an accepted case, if there is one.
 fn wrong_with_accepted<L: RecordLanguage>(
     alloc: Global,
     case: &Case<'_>,
@@ -132,7 +132,7 @@ fn wrong_with_accepted<L: RecordLanguage>(
     Some(None)
 }
 
-/// What is wrong with a case in a language, if anything is.
+/// Returns the fault of a case in a language, if there is one.
 fn wrong_in<L: RecordLanguage>(alloc: Global, case: &Case<'_>) -> Option<Wrong> {
     let bytes = case.bytes.as_slice();
     if !is_answered::<L>(alloc, case.limits, bytes, case.answer) {
@@ -192,11 +192,11 @@ fn is_printed(alloc: Global, case: &Case<'_>) -> Option<bool> {
     let status = run(alloc, words.as_slice(), &mut source, &mut sink);
     drop(sink);
     let line = first_line(alloc, case)?;
-    let told = case.answer.is_ok() || status as u8 == 1 && out.len() == line.len();
-    Some(case.bytes.is_empty() || told && out.starts_with(line.as_bytes()))
+    let reported = case.answer.is_ok() || status as u8 == 1 && out.len() == line.len();
+    Some(case.bytes.is_empty() || reported && out.starts_with(line.as_bytes()))
 }
 
-/// What is wrong with a case in one of its languages, if anything is.
+/// Returns the fault of a case in one of its languages, if there is one.
 fn wrong_in_language(alloc: Global, case: &Case<'_>, language: &str) -> Option<Wrong> {
     match language {
         "typed" if !is_printed(alloc, case)? => Some(Some("another line of check")),
@@ -207,7 +207,7 @@ fn wrong_in_language(alloc: Global, case: &Case<'_>, language: &str) -> Option<W
     }
 }
 
-/// What is wrong with a case, with the profile of its limits, if anything is.
+/// Returns the fault of a case, with the profile of its limits, if there is one.
 fn wrong_in_profile(alloc: Global, case: &Case<'_>) -> Option<Wrong> {
     for language in case.languages.split_whitespace() {
         let wrong = wrong_in_language(alloc, case, language)?;
@@ -218,7 +218,7 @@ fn wrong_in_profile(alloc: Global, case: &Case<'_>) -> Option<Wrong> {
     Some(None)
 }
 
-/// What is wrong with the case of a line, if anything is; nothing where the line can't be read.
+/// Returns the fault of the case of a line, if there is one; None if the line can't be read.
 pub(super) fn wrong_with(alloc: Global, line: &str) -> Option<Wrong> {
     let mut case = case_of(alloc, line)?;
     let mut tried = false;

@@ -9,15 +9,15 @@ use Rattle.ndef_format.specs.HeadReasons.{is_set}
 use Rattle.ndef_piece.specs.HeaderLaws.{header_parts}
 use Rattle.ndef_piece.specs.Whole.{BeginWithPiece, IsSplit}
 use Rattle.ndef_message.specs.Machine.Seen.{ArePieces, pieces_of}
-use Rattle.ndef_message.specs.Machine.SeenLaws.{First, begins, first_piece_of, first_of_some, first_shown, told_behind, pieces_told}
+use Rattle.ndef_message.specs.Machine.SeenLaws.{First, begins, first_piece_of, first_of_some, first_shown, reported_after, pieces_reported}
 use Rattle.ndef_fields.specs.Parts.{Part, joined}
 use Rattle.ndef_fields.specs.Messages.{piece_parts, AreParts, AreNestedParts, IsInnerOwn}
 use Rattle.ndef_fields.specs.Cursors.{parts_along, inner_own, inner_in, outer_own, outer_in, AreOuter, HasPieceContents}
 use Rattle.ndef_fields.proofs.Joining.{leaf_joined, piece_joined}
 
 -- the header octet gives the form
-form_told : (p : Piece) (short : Bool) (front rest : List ℕ) → SpellsPiece p short front → is_set 4 (slice_index (front ++ rest) 0) ≡ short
-form_told p short front rest s =
+form_reported : (p : Piece) (short : Bool) (front rest : List ℕ) → SpellsPiece p short front → is_set 4 (slice_index (front ++ rest) 0) ≡ short
+form_reported p short front rest s =
     ap (λ x. is_set 4 (slice_index (x ++ rest) 0)) s.spelled ∙ (header_parts (fields p short) s.piece.tnf).short
 
 module _ (depth : ℕ) (own : Piece → List Part) where
@@ -25,7 +25,7 @@ module _ (depth : ℕ) (own : Piece → List Part) where
   pub first_along : (p : Piece) (short : Bool) (front rest : List ℕ) (ps : List Piece) → SpellsPiece p short front
       → parts_along depth own (p ∷ ps) (front ++ rest) ≡ piece_parts depth p short (own p) ++ parts_along depth own ps rest
   first_along p short front rest ps s =
-      let e = form_told p short front rest s in
+      let e = form_reported p short front rest s in
       let d : drop (length (octets (fields p short) ++ body p)) (front ++ rest) ≡ rest = drop_at front rest _ (ap length s.spelled) in
       ap (λ form. piece_parts depth p form (own p) ++ parts_along depth own ps (drop (length (octets (fields p form) ++ body p)) (front ++ rest))) e
       ∙ ap (λ x. piece_parts depth p short (own p) ++ parts_along depth own ps x) d
@@ -57,7 +57,7 @@ inner_leaves table (p ∷ ps) = (leaf_joined 1 _ p.payload, inner_leaves table p
 
 pub inner_is : (table : Table) (bytes : List ℕ) (a : ArePieces bytes) → inner_in table bytes ≡ parts_along 1 (inner_own table) a.0 bytes
 unfolding inner_in
-inner_is table bytes a = ap (λ ps. parts_along 1 (inner_own table) ps bytes) (pieces_told a.0 bytes a.1)
+inner_is table bytes a = ap (λ ps. parts_along 1 (inner_own table) ps bytes) (pieces_reported a.0 bytes a.1)
 
 pub inner_parts : (table : Table) (bytes : List ℕ) → ArePieces bytes → AreNestedParts table bytes (inner_in table bytes)
 inner_parts table bytes a =
@@ -93,7 +93,7 @@ first_parts : (depth : ℕ) (own : Piece → List Part) (p : Piece) (later : Lis
     → parts_along depth own (pieces_of bytes) bytes ≡ piece_parts depth w short (own w) ++ parts_along depth own (pieces_of rest) rest
 first_parts depth own p later bytes f w short rest i =
     let same = first_shown f w short rest i in
-    let ps : pieces_of bytes ≡ w ∷ pieces_of rest = told_behind f ∙ ap₂ (λ p r. p ∷ pieces_of r) (sym same.0) (sym same.1) in
+    let ps : pieces_of bytes ≡ w ∷ pieces_of rest = reported_after f ∙ ap₂ (λ p r. p ∷ pieces_of r) (sym same.0) (sym same.1) in
     ap₂ (parts_along depth own) ps i.joined ∙ first_along depth own w short i.front rest (pieces_of rest) i.spells
 
 pub record BegunInner (table : Table) (w : Piece) (short : Bool) (rest bytes : List ℕ) : Type 0 where

@@ -9,18 +9,18 @@ use Rattle.ndef_format.specs.Positions.{Field, InHead, InType, InId, InPayload, 
 use Rattle.ndef_format.specs.HeadReasons.{is_set, tnf_number, width}
 use Rattle.ndef_piece.specs.Header.{size}
 use Rattle.ndef_piece.specs.HeaderLaws.{header, header_parts, octets_size}
-use Rattle.ndef_piece.specs.Heads.{HeadsAreApart}
+use Rattle.ndef_piece.specs.Heads.{HeadsAreUnambiguous}
 use Rattle.ndef_fields.specs.declared.before.Before.TheVariants.{Head, Payload}
 use Rattle.ndef_fields.specs.declared.before.PayloadBefore.{PayloadBefore}
 use Rattle.ndef_fields.specs.declared.name.FieldName.{FieldName}
 use Rattle.ndef_fields.specs.declared.name.FieldName.TheVariants as names
 use Rattle.ndef_fields.specs.Befores.{IsFieldBefore, body_given, content_given}
-use Rattle.ndef_fields.specs.Refusals.{IsBehindPieces, IsNameOf, lengths_width}
+use Rattle.ndef_fields.specs.Refusals.{IsAfterPieces, IsNameOf, lengths_width}
 use Rattle.ndef_fields.proofs.Proper.{not_whole, tells}
 
 -- what follows whole pieces is what has come of one more
-pub left_is : HeadsAreApart → (limits : LimitValues) (bytes rest : List ℕ) (runs : List Run) (begun : List Piece) (field : Field)
-    → IsBehindPieces bytes rest → IsAt limits bytes runs begun field → rest ≡ octets_so_far field
+pub left_is : HeadsAreUnambiguous → (limits : LimitValues) (bytes rest : List ℕ) (runs : List Run) (begun : List Piece) (field : Field)
+    → IsAfterPieces bytes rest → IsAt limits bytes runs begun field → rest ≡ octets_so_far field
 left_is apart limits bytes rest runs begun field b a =
     b (all_pieces runs ++ begun) a.front (octets_so_far field) a.spelled (not_whole apart (spot_after limits runs begun) field a.proper) a.split
 

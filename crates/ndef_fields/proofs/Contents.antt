@@ -14,7 +14,7 @@ use Rattle.ndef_fields.specs.Payloads.{leaf_parts, stage_of}
 use Rattle.ndef_fields.specs.Stages.{stage_parts, stage_rank}
 use Rattle.ndef_fields.specs.Messages.{AreParts, ArePartsBy, IsOuterOwn, piece_kind, version_length}
 use Rattle.ndef_fields.specs.Cursors.{parts_along, parts_by, outer_own, outer_in, HoldsPiecesBy, HasPieceContents, AreOuter}
-use Rattle.ndef_message.specs.Machine.SeenLaws.{pieces_told}
+use Rattle.ndef_message.specs.Machine.SeenLaws.{pieces_reported}
 use Rattle.ndef_fields.proofs.Joining.{leaf_joined, cut_joined}
 use Rattle.ndef_fields.proofs.Along.{along, along_joined, inner_parts, inner_joined}
 
@@ -45,7 +45,7 @@ outer_parts ps bytes s h = along 0 outer_own IsOuterOwn ps bytes s (owns ps h)
 
 pub outer_is : (ps : List Piece) (bytes : List ℕ) → SpellsPieces ps bytes → outer_in bytes ≡ parts_along 0 outer_own ps bytes
 unfolding outer_in
-outer_is ps bytes s = ap (λ qs. parts_along 0 outer_own qs bytes) (pieces_told ps bytes s)
+outer_is ps bytes s = ap (λ qs. parts_along 0 outer_own qs bytes) (pieces_reported ps bytes s)
 
 pub outer_joined : (bytes : List ℕ) → AreOuter bytes → joined (outer_in bytes) ≡ bytes
 outer_joined bytes a = ap joined (outer_is a.pieces bytes a.spelled) ∙ along_joined 0 outer_own a.pieces bytes a.spelled (leaves a.pieces a.contents)

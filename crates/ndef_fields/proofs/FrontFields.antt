@@ -19,14 +19,14 @@ use Rattle.ndef_fields.specs.Cursors.{AreOuter, inner_in, inner_own, outer_in, p
 use Rattle.ndef_fields.specs.Fronts.{AreFrontBy, AreNestedFront, ArePayloadFront, IsHeadOctets, content_come, front_parts, inner_come, kind_come, tnf_come}
 use Rattle.ndef_fields.specs.Lefts.{from_header, inside_parts}
 use Rattle.ndef_fields.specs.Messages.{AreParts, IsInnerOwn}
-use Rattle.ndef_fields.specs.Parts.{Part, field_at, joined, placed, told}
+use Rattle.ndef_fields.specs.Parts.{Part, field_at, joined, placed, reported}
 use Rattle.ndef_fields.specs.Payloads.{outer_stage, stage_of}
 use Rattle.ndef_fields.specs.Refusals.{AreWholeBefore}
 use Rattle.ndef_fields.specs.Stages.{stage_parts}
 use Rattle.ndef_fields.proofs.Along.{along, inner_is, inner_joined, inner_owns, nothing_inside, nothing_outside}
 use Rattle.ndef_fields.proofs.Joining.{leaf_staged}
-use Rattle.ndef_fields.proofs.Fronts.{front_behind, front_joined, head_front}
-use Rattle.ndef_fields.proofs.Joining.{leaf_joined, told_joined}
+use Rattle.ndef_fields.proofs.Fronts.{front_after, front_joined, head_front}
+use Rattle.ndef_fields.proofs.Joining.{leaf_joined, reported_joined}
 use Rattle.ndef_fields.proofs.Lasts.{nothing_staged}
 use Rattle.ndef_fields.proofs.Payloads.{contents_joined}
 
@@ -132,16 +132,16 @@ contents_front kind s c h x n =
 pub within : (s : List ℕ) (kind : Kind) (head : HeadOctets) (c : Contents) → IsHeadOctets s head → AreContentsOf kind (content_come s) c
     → length (joined (from_header 0 head (inside_parts 0 c.inside))) + length c.inner.now ≡ length s
 within s kind head c h has =
-    let inner = told 0 names.Payload c.inner.now in
+    let inner = reported 0 names.Payload c.inner.now in
     let own = inside_parts 0 c.inside in
     let e : joined (own ++ inner) ≡ content_come s =
-    joined_both own inner ∙ ap (λ x. joined own ++ x) (told_joined 0 names.Payload c.inner.now) ∙ contents_joined kind (content_come s) c has in
+    joined_both own inner ∙ ap (λ x. joined own ++ x) (reported_joined 0 names.Payload c.inner.now) ∙ contents_joined kind (content_come s) c has in
     let f = ap length (front_joined 0 s (own ++ inner) e) in
-    let g : front_parts 0 s (own ++ inner) ≡ front_parts 0 s own ++ inner = sym (front_behind 0 s own inner) in
+    let g : front_parts 0 s (own ++ inner) ≡ front_parts 0 s own ++ inner = sym (front_after 0 s own inner) in
     let k = ap (λ x. length (joined x)) g in
     let m = ap length (joined_both (front_parts 0 s own) inner) in
     let n = length-append (joined (front_parts 0 s own)) (joined inner) in
-    let o = ap length (told_joined 0 names.Payload c.inner.now) in
+    let o = ap length (reported_joined 0 names.Payload c.inner.now) in
     let p = ap (λ x. length (joined x)) (head_front 0 s head own h) in
     omega (arith, f, k, m, n, o, p)
 

@@ -15,11 +15,11 @@ use Rattle.ndef_fields.specs.declared.name.FieldName.TheVariants as names
 use Rattle.ndef_fields.specs.Cursors.{HasPieceContents, HoldsPiecesBy, inner_own, outer_own, parts_along}
 use Rattle.ndef_fields.specs.Fronts.{AreFrontBy, AreFrontParts, AreNestedFront, ArePayloadFront, content_come, front_parts, id_come, id_length_come, inner_come, kind_begun, kind_come, payload_length_come, tnf_come}
 use Rattle.ndef_fields.specs.Messages.{AreNestedParts, AreParts, ArePartsBy, IsInnerOwn, IsOuterOwn, piece_kind, version_length}
-use Rattle.ndef_fields.specs.Parts.{Part, joined, placed, told}
+use Rattle.ndef_fields.specs.Parts.{Part, joined, placed, reported}
 use Rattle.ndef_fields.specs.Payloads.{stage_of}
 use Rattle.ndef_message.specs.Machine.Seen.{ArePieces}
 use Rattle.ndef_fields.specs.Refusals.{AreWholeBefore}
-use Rattle.ndef_fields.specs.FieldLaws.{AreGapless, FrontFieldsAreSlices, FrontFieldsFollow, OneFrontTelling, OnePayloadTelling, PayloadFieldsAreSlices, PayloadFieldsFollow, PayloadsAreTold}
+use Rattle.ndef_fields.specs.FieldLaws.{AreGapless, FrontFieldsAreSlices, FrontFieldsFollow, OneFrontReport, OnePayloadReport, PayloadFieldsAreSlices, PayloadFieldsFollow, PayloadsAreExact}
 use Rattle.ndef_fields.proofs.Along.{along_joined, inner_leaves}
 use Rattle.ndef_fields.proofs.Contents.{leaves}
 use Rattle.ndef_fields.proofs.Lasts.{nothing_staged}
@@ -29,7 +29,7 @@ use Rattle.ndef_fields.proofs.FrontFields.{joined_both}
 use Rattle.ndef_fields.proofs.Fronts.{front_joined}
 use Rattle.ndef_fields.proofs.Joining.{cut_joined, leaf_joined, leaf_staged}
 use Rattle.ndef_fields.proofs.Slices.{AreSome, follow, more, slices, some_along, some_append, some_leaf, some_payload}
-use Rattle.ndef_fields.proofs.Uniqueness.{outer_told, parts_spell, told_along}
+use Rattle.ndef_fields.proofs.Uniqueness.{outer_reported, parts_spell, reported_along}
 
 -- ---- whole pieces
 
@@ -46,12 +46,12 @@ pieces_kept (p ∷ ps) bytes parts (short, front, rest, own, later, e, s, o, pe,
 -- the octets of the parts of whole pieces
 whole_joined : (ps : List Piece) (bytes : List ℕ) (parts : List Part) → AreParts 0 IsOuterOwn ps bytes parts → joined parts ≡ bytes
 whole_joined ps bytes parts a =
-    ap joined (outer_told ps bytes parts a)
+    ap joined (outer_reported ps bytes parts a)
     ∙ along_joined 0 outer_own ps bytes (parts_spell 0 IsOuterOwn ps bytes parts a) (leaves ps (pieces_kept ps bytes parts a))
 
 -- the parts of whole pieces of a nested message
 inner_along : (table : Table) (ps : List Piece) (bytes : List ℕ) (parts : List Part) → AreParts 1 (IsInnerOwn table) ps bytes parts → parts ≡ parts_along 1 (inner_own table) ps bytes
-inner_along table = told_along 1 (IsInnerOwn table) (inner_own table) (λ p own o. o)
+inner_along table = reported_along 1 (IsInnerOwn table) (inner_own table) (λ p own o. o)
 
 whole_inner_joined : (table : Table) (ps : List Piece) (bytes : List ℕ) (parts : List Part) → AreParts 1 (IsInnerOwn table) ps bytes parts → joined parts ≡ bytes
 whole_inner_joined table ps bytes parts a =
@@ -91,11 +91,11 @@ front_parts_joined bytes parts f =
 
 some_front : (depth : ℕ) (s : List ℕ) (payload : List Part) → AreSome payload → AreSome (front_parts depth s payload)
 some_front depth s payload h =
-    let after_id = told depth names.Id (id_come s) ++ payload in
-    let after_kind = told depth names.Kind (kind_come s) ++ after_id in
-    let after_there = told depth names.IdLength (id_length_come s) ++ after_kind in
-    let after_length = told depth names.PayloadLength (payload_length_come s) ++ after_there in
-    more depth names.Header (take 1 s) (told depth names.KindLength (take 1 (drop 1 s)) ++ after_length)
+    let after_id = reported depth names.Id (id_come s) ++ payload in
+    let after_kind = reported depth names.Kind (kind_come s) ++ after_id in
+    let after_there = reported depth names.IdLength (id_length_come s) ++ after_kind in
+    let after_length = reported depth names.PayloadLength (payload_length_come s) ++ after_there in
+    more depth names.Header (take 1 s) (reported depth names.KindLength (take 1 (drop 1 s)) ++ after_length)
     (more depth names.KindLength (take 1 (drop 1 s)) after_length
     (more depth names.PayloadLength (payload_length_come s) after_there
     (more depth names.IdLength (id_length_come s) after_kind
@@ -125,7 +125,7 @@ some_before bytes parts f =
     let before = some_along 0 outer_own (λ p. some_payload (piece_kind p) p.payload) w.pieces w.front in
     let last = some_front 0 f.rest f.payload (some_payload_front (kind_begun f.rest) (content_come f.rest) f.payload f.content) in
     subst AreSome (sym f.parts_are)
-    (some_append f.before (front_parts 0 f.rest f.payload) (subst AreSome (sym (outer_told w.pieces w.front f.before f.spelled)) before) last)
+    (some_append f.before (front_parts 0 f.rest f.payload) (subst AreSome (sym (outer_reported w.pieces w.front f.before f.spelled)) before) last)
 
 -- ---- there is one list
 
@@ -194,7 +194,7 @@ one_nested table bytes xs ys a b =
 one_by : (table : Option Table) (kind : Kind) (s : List ℕ) (xs ys : List Part) → AreFrontBy table kind s xs → AreFrontBy table kind s ys → xs ≡ ys
 one_by (Some table) kind s xs ys (x, e, a) (y, f, b) =
     let k = version_length table in
-    e ∙ ap (λ z. told 0 names.Version (take k s) ++ z) (one_nested table (drop k s) x y a b) ∙ sym f
+    e ∙ ap (λ z. reported 0 names.Version (take k s) ++ z) (one_nested table (drop k s) x y a b) ∙ sym f
 one_by None kind s xs ys a b = a ∙ sym b
 
 one_payload : (kind : Kind) (s : List ℕ) (xs ys : List Part) → ArePayloadFront kind s xs → ArePayloadFront kind s ys → xs ≡ ys
@@ -207,25 +207,25 @@ one_front bytes xs ys a b =
     a.parts_are
     ∙ ap₂ (λ x y. x ++ y)
     (
-    outer_told a.whole.pieces a.whole.front a.before a.spelled
+    outer_reported a.whole.pieces a.whole.front a.before a.spelled
     ∙ ap₂ (parts_along 0 outer_own) same.pieces same.front
-    ∙ sym (outer_told b.whole.pieces b.whole.front b.before b.spelled)
+    ∙ sym (outer_reported b.whole.pieces b.whole.front b.before b.spelled)
     )
     (ap₂ (front_parts 0) same.rest (one_payload (kind_begun b.rest) (content_come b.rest) a.payload b.payload content b.content))
     ∙ sym b.parts_are
 
 -- ---- the laws
 
-pub one_front_telling : OneFrontTelling
-one_front_telling bytes told other a b = a.placed ∙ ap (placed 0) (one_front bytes a.parts b.parts a.spelled b.spelled) ∙ sym b.placed
+pub one_front_report : OneFrontReport
+one_front_report bytes reported other a b = a.placed ∙ ap (placed 0) (one_front bytes a.parts b.parts a.spelled b.spelled) ∙ sym b.placed
 
 pub front_fields_follow : FrontFieldsFollow
-front_fields_follow bytes told a =
+front_fields_follow bytes reported a =
     let n = ap length (front_parts_joined bytes a.parts a.spelled) in
     subst (λ fs. AreGapless 0 fs (length bytes)) (sym a.placed) (follow 0 a.parts (length bytes) (some_before bytes a.parts a.spelled) (omega (arith, n)))
 
 pub front_fields_are_slices : FrontFieldsAreSlices
-front_fields_are_slices bytes told a =
+front_fields_are_slices bytes reported a =
     ap (map (λ f. take f.length (drop f.at bytes))) a.placed
     ∙ slices 0 a.parts bytes [] (sym (front_parts_joined bytes a.parts a.spelled) ∙ sym (append-nil (joined a.parts)))
 
@@ -253,18 +253,18 @@ whole_by : (table : Option Table) (kind : Kind) (s : List ℕ) (parts : List Par
 whole_by (Some table) kind s parts a (inner, e, n) = (inner, e, nested_whole table (drop (version_length table) s) inner a n)
 whole_by None kind s parts a h = h
 
-pub payload_told_so : PayloadsAreTold
-payload_told_so kind records profile s told valid a = whole_by (table_in kind) kind s a.parts (payload_holds kind records profile s valid) a.spelled
+pub payload_reported_so : PayloadsAreExact
+payload_reported_so kind records profile s reported valid a = whole_by (table_in kind) kind s a.parts (payload_holds kind records profile s valid) a.spelled
 
-pub one_payload_telling : OnePayloadTelling
-one_payload_telling kind s told other a b = a.placed ∙ ap (placed 0) (one_payload kind s a.parts b.parts a.spelled b.spelled) ∙ sym b.placed
+pub one_payload_report : OnePayloadReport
+one_payload_report kind s reported other a b = a.placed ∙ ap (placed 0) (one_payload kind s a.parts b.parts a.spelled b.spelled) ∙ sym b.placed
 
 pub payload_fields_follow : PayloadFieldsFollow
-payload_fields_follow kind s told a =
+payload_fields_follow kind s reported a =
     let n = ap length (payload_front_joined kind s a.parts a.spelled) in
     subst (λ fs. AreGapless 0 fs (length s)) (sym a.placed) (follow 0 a.parts (length s) (some_payload_front kind s a.parts a.spelled) (omega (arith, n)))
 
 pub payload_fields_are_slices : PayloadFieldsAreSlices
-payload_fields_are_slices kind s told a =
+payload_fields_are_slices kind s reported a =
     ap (map (λ f. take f.length (drop f.at s))) a.placed
     ∙ slices 0 a.parts s [] (sym (payload_front_joined kind s a.parts a.spelled) ∙ sym (append-nil (joined a.parts)))

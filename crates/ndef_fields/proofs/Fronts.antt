@@ -14,7 +14,7 @@ use Rattle.ndef_fields.specs.Befores.{body_given}
 use Rattle.ndef_fields.specs.Fronts.{IsHeadOctets, content_come, front_parts, id_come, id_length_come, kind_come, payload_length_come}
 use Rattle.ndef_fields.specs.Lefts.{from_header}
 use Rattle.ndef_fields.specs.Messages.{piece_parts}
-use Rattle.ndef_fields.specs.Parts.{Part, told, joined}
+use Rattle.ndef_fields.specs.Parts.{Part, reported, joined}
 use Rattle.ndef_fields.specs.Refusals.{id_given, id_length_width, lengths_width}
 use Rattle.ndef_fields.proofs.Joining.{cut_joined, id_there}
 use Rattle.ndef_fields.proofs.Proper.{tells}
@@ -73,16 +73,16 @@ come f kind id content c lk li =
     let tail = drop 2 s in
     let b = head_come f (kind ++ (id ++ content)) c in
     let i = b.id_count in
-    let behind_kind : drop f.kind_length (body_given h tail) ≡ id ++ content =
+    let past_kind : drop f.kind_length (body_given h tail) ≡ id ++ content =
     ap (drop f.kind_length) b.body ∙ drop_at kind (id ++ content) f.kind_length (omega (arith, lk)) in
     record {
       payload_length = b.payload_length;
       id_length = b.id_length;
       kind_is = ap (take f.kind_length) b.body ∙ take_at kind (id ++ content) f.kind_length (omega (arith, lk));
-      id_is = ap (take (id_given h tail)) behind_kind ∙ take_at id content (id_given h tail) (omega (arith, i, li));
+      id_is = ap (take (id_given h tail)) past_kind ∙ take_at id content (id_given h tail) (omega (arith, i, li));
       content_is =
           sym (drop-drop (id_given h tail) f.kind_length (body_given h tail))
-          ∙ ap (drop (id_given h tail)) behind_kind
+          ∙ ap (drop (id_given h tail)) past_kind
           ∙ drop_at id content (id_given h tail) (omega (arith, i, li));
     }
 
@@ -122,15 +122,15 @@ head_whole depth p short rest bytes head payload h i = sym (head_front depth byt
 apart : (a b c d e f x y : List Part) → (a ++ (b ++ (c ++ (d ++ (e ++ (f ++ x)))))) ++ y ≡ a ++ (b ++ (c ++ (d ++ (e ++ (f ++ (x ++ y))))))
 apart a b c d e f x y = simp append_assoc
 
-pub front_behind : (depth : ℕ) (s : List ℕ) (x y : List Part) → front_parts depth s x ++ y ≡ front_parts depth s (x ++ y)
-front_behind depth s x y =
+pub front_after : (depth : ℕ) (s : List ℕ) (x y : List Part) → front_parts depth s x ++ y ≡ front_parts depth s (x ++ y)
+front_after depth s x y =
     apart
-    (told depth names.Header (take 1 s))
-    (told depth names.KindLength (take 1 (drop 1 s)))
-    (told depth names.PayloadLength (payload_length_come s))
-    (told depth names.IdLength (id_length_come s))
-    (told depth names.Kind (kind_come s))
-    (told depth names.Id (id_come s))
+    (reported depth names.Header (take 1 s))
+    (reported depth names.KindLength (take 1 (drop 1 s)))
+    (reported depth names.PayloadLength (payload_length_come s))
+    (reported depth names.IdLength (id_length_come s))
+    (reported depth names.Kind (kind_come s))
+    (reported depth names.Id (id_come s))
     x y
 
 -- ---- joined
@@ -148,14 +148,14 @@ front_joined depth s payload e =
     let tail = drop 2 s in
     let body = body_given h tail in
     let i = id_given h tail in
-    let after_id = told depth names.Id (id_come s) ++ payload in
-    let after_kind = told depth names.Kind (kind_come s) ++ after_id in
-    let after_there = told depth names.IdLength (id_length_come s) ++ after_kind in
-    let after_length = told depth names.PayloadLength (payload_length_come s) ++ after_there in
+    let after_id = reported depth names.Id (id_come s) ++ payload in
+    let after_kind = reported depth names.Kind (kind_come s) ++ after_id in
+    let after_there = reported depth names.IdLength (id_length_come s) ++ after_kind in
+    let after_length = reported depth names.PayloadLength (payload_length_come s) ++ after_there in
     let a : joined after_id ≡ drop k body = cut_joined depth names.Id i (drop k body) payload (e ∙ sym (drop-drop i k body)) in
     let b : joined after_kind ≡ body = cut_joined depth names.Kind k body after_id a in
     let c : joined after_there ≡ drop (width h) tail =
     cut_joined depth names.IdLength (id_length_width h) (drop (width h) tail) after_kind (b ∙ sym (drop-drop (id_length_width h) (width h) tail)) in
     let d : joined after_length ≡ drop 1 (drop 1 s) = cut_joined depth names.PayloadLength (width h) tail after_there c ∙ sym (two s) in
-    cut_joined depth names.Header 1 s (told depth names.KindLength (take 1 (drop 1 s)) ++ after_length)
+    cut_joined depth names.Header 1 s (reported depth names.KindLength (take 1 (drop 1 s)) ++ after_length)
     (cut_joined depth names.KindLength 1 (drop 1 s) after_length d)

@@ -6,7 +6,7 @@ use Rattle.ndef_format.specs.Limits.{LimitValues}
 use Rattle.ndef_format.specs.declared.kind.Kind.{Kind}
 use Rattle.ndef_fields.specs.declared.field.Field.{Field}
 use Rattle.ndef_fields.specs.FieldLaws.{AreGapless, bytes_of_field, joined_bytes}
-use Rattle.ndef_fields.specs.Tellings.{AreFields, AreFieldsBefore, ArePayloadFields}
+use Rattle.ndef_fields.specs.Reports.{AreFields, AreFieldsBefore, ArePayloadFields}
 use Rattle.ndef_fields.proofs.FrontLaws.{front_fields_follow, payload_fields_follow}
 use Rattle.ndef_fields.proofs.Slices.{fields_follow}
 
@@ -21,12 +21,12 @@ fields_on bytes at (f ∷ fs) end is =
     sym (append_assoc (take at bytes) (bytes_of_field bytes f) (joined_bytes bytes fs))
     ∙ ap (λ xs. xs ++ joined_bytes bytes fs) (field_on bytes at f is.0) ∙ fields_on bytes (at + f.length) fs end is.2
 
-pub fields_are_message : (limits : LimitValues) (input : List ℕ) (told : List Field) (a : AreFields limits input told) → joined_bytes input told ≡ take a.count input
-fields_are_message limits input told a = fields_on input 0 told a.count (fields_follow limits input told a)
+pub fields_are_message : (limits : LimitValues) (input : List ℕ) (reported : List Field) (a : AreFields limits input reported) → joined_bytes input reported ≡ take a.count input
+fields_are_message limits input reported a = fields_on input 0 reported a.count (fields_follow limits input reported a)
 
-pub fields_are_front : (bytes : List ℕ) (told : List Field) → AreFieldsBefore bytes told → joined_bytes bytes told ≡ bytes
-fields_are_front bytes told a = fields_on bytes 0 told (length bytes) (front_fields_follow bytes told a) ∙ take_all (length bytes) bytes (omega arith)
+pub fields_are_front : (bytes : List ℕ) (reported : List Field) → AreFieldsBefore bytes reported → joined_bytes bytes reported ≡ bytes
+fields_are_front bytes reported a = fields_on bytes 0 reported (length bytes) (front_fields_follow bytes reported a) ∙ take_all (length bytes) bytes (omega arith)
 
-pub fields_are_payload : (kind : Kind) (payload : List ℕ) (told : List Field) → ArePayloadFields kind payload told → joined_bytes payload told ≡ payload
-fields_are_payload kind payload told a =
-    fields_on payload 0 told (length payload) (payload_fields_follow kind payload told a) ∙ take_all (length payload) payload (omega arith)
+pub fields_are_payload : (kind : Kind) (payload : List ℕ) (reported : List Field) → ArePayloadFields kind payload reported → joined_bytes payload reported ≡ payload
+fields_are_payload kind payload reported a =
+    fields_on payload 0 reported (length payload) (payload_fields_follow kind payload reported a) ∙ take_all (length payload) payload (omega arith)

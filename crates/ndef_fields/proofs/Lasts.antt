@@ -15,7 +15,7 @@ use Rattle.ndef_fields.specs.declared.name.FieldName.{FieldName}
 use Rattle.ndef_fields.specs.declared.stage.Cut.{Cut}
 use Rattle.ndef_fields.specs.declared.stage.Stage.{Stage}
 use Rattle.ndef_fields.specs.declared.stage.Stage.TheVariants as stages
-use Rattle.ndef_fields.specs.Parts.{Part, told}
+use Rattle.ndef_fields.specs.Parts.{Part, reported}
 use Rattle.ndef_fields.specs.Payloads.{leaf_parts, outer_stage, references_parts, stage_of}
 use Rattle.ndef_format.specs.Texts.{code_length}
 use Rattle.ndef_lang.specs.declared.leaf.Stage.{Stage as Layout}
@@ -26,15 +26,15 @@ use Rattle.ndef_fields.specs.Lasts.{EndsIn, IsFieldOf, IsInnerField, IsLastBy, I
 use Rattle.ndef_fields.proofs.Joining.{leaf_staged}
 
 -- ---- the last part
-ends_behind : (xs ys : List Part) (name : FieldName) → EndsIn ys name → EndsIn (xs ++ ys) name
-ends_behind [] ys name h = h
-ends_behind (x ∷ []) [] name h = absurd h
-ends_behind (x ∷ []) (y ∷ ys) name h = h
-ends_behind (x ∷ z ∷ xs) ys name h = ends_behind (z ∷ xs) ys name h
+ends_after : (xs ys : List Part) (name : FieldName) → EndsIn ys name → EndsIn (xs ++ ys) name
+ends_after [] ys name h = h
+ends_after (x ∷ []) [] name h = absurd h
+ends_after (x ∷ []) (y ∷ ys) name h = h
+ends_after (x ∷ z ∷ xs) ys name h = ends_after (z ∷ xs) ys name h
 
-told_ends : (depth : ℕ) (name : FieldName) (s : List ℕ) → 0 < length s → EndsIn (told depth name s) name
-told_ends depth name [] n = absurd (omega (arith, n))
-told_ends depth name (b ∷ s) n = refl
+reported_ends : (depth : ℕ) (name : FieldName) (s : List ℕ) → 0 < length s → EndsIn (reported depth name s) name
+reported_ends depth name [] n = absurd (omega (arith, n))
+reported_ends depth name (b ∷ s) n = refl
 
 no_references : (depth n : ℕ) → references_parts depth n [] ≡ []
 no_references depth zero = refl
@@ -68,7 +68,7 @@ nothing_staged depth (stages.Inside left name next last) = nothing_inside depth 
 pub ends_later : (stage : Stage) (s : List ℕ) (cut : Cut) → IsFieldCut stage s cut → (depth : ℕ) (name : FieldName)
     → EndsIn (stage_parts depth cut.stage (drop cut.length s)) name → EndsIn (stage_parts depth stage s) name
 ends_later stage s cut c depth name h =
-    subst (λ ps. EndsIn ps name) (sym (c.parts depth)) (ends_behind (told depth cut.name (take cut.length s)) _ name h)
+    subst (λ ps. EndsIn ps name) (sym (c.parts depth)) (ends_after (reported depth cut.name (take cut.length s)) _ name h)
 
 -- in what is cut
 pub ends_here : (stage : Stage) (s : List ℕ) (cut : Cut) → IsFieldCut stage s cut → length s ≤ cut.length → 0 < length s → (depth : ℕ)
@@ -77,9 +77,9 @@ ends_here stage s cut c all some depth =
     let t : take cut.length s ≡ s = take_all cut.length s all in
     let d : stage_parts depth cut.stage (drop cut.length s) ≡ [] =
     ap (stage_parts depth cut.stage) (drop_all cut.length s all) ∙ nothing_staged depth cut.stage in
-    let e : stage_parts depth stage s ≡ told depth cut.name s =
-    c.parts depth ∙ ap₂ (λ x y. told depth cut.name x ++ y) t d ∙ append-nil (told depth cut.name s) in
-    subst (λ ps. EndsIn ps cut.name) (sym e) (told_ends depth cut.name s some)
+    let e : stage_parts depth stage s ≡ reported depth cut.name s =
+    c.parts depth ∙ ap₂ (λ x y. reported depth cut.name x ++ y) t d ∙ append-nil (reported depth cut.name s) in
+    subst (λ ps. EndsIn ps cut.name) (sym e) (reported_ends depth cut.name s some)
 
 -- ---- the octets of a payload up to the last
 back_is : (bytes front x content : List ℕ) (octet count : ℕ) → bytes ≡ front ++ octet ∷ [] → front ≡ x ++ content → count ≡ length content

@@ -19,17 +19,17 @@ use Rattle.ndef_fields.specs.Payloads.{outer_stage}
 use Rattle.ndef_fields.specs.Stages.{stage_parts, stage_rank}
 use Rattle.ndef_fields.proofs.Along.{nothing_inside}
 use Rattle.ndef_fields.proofs.Contents.{small_rank}
-use Rattle.ndef_fields.proofs.Joining.{leaf_joined, leaf_staged, told_joined}
+use Rattle.ndef_fields.proofs.Joining.{leaf_joined, leaf_staged, reported_joined}
 
 -- ---- whole payloads
 
 -- nothing after some parts
-none_behind : (parts : List Part) → parts ≡ parts ++ inner_in SmartPoster []
-none_behind parts = sym (append-nil parts) ∙ ap (λ x. parts ++ x) (sym (nothing_inside SmartPoster))
+none_after : (parts : List Part) → parts ≡ parts ++ inner_in SmartPoster []
+none_after parts = sym (append-nil parts) ∙ ap (λ x. parts ++ x) (sym (nothing_inside SmartPoster))
 
 split : (table : Option Table) (kind : Kind) (s : List ℕ) → parts_by table kind s ≡ stage_parts 0 (stage_by table kind) (inside_by table s) ++ inner_in (unwrap_or table SmartPoster) (inner_by table s)
 split (Some table) kind s = refl
-split None kind s = leaf_staged 0 (outer_kind kind) s ∙ none_behind (stage_parts 0 (outer_stage kind) s)
+split None kind s = leaf_staged 0 (outer_kind kind) s ∙ none_after (stage_parts 0 (outer_stage kind) s)
 
 held : (table : Option Table) (s : List ℕ) → HoldsPiecesBy table s → ArePieces (inner_by table s)
 held (Some table) s h = h
@@ -45,7 +45,7 @@ octets_are (Some table) s = take-append-drop (version_length table) s
 octets_are None s = append-nil s
 
 inside_joined : (table : Option Table) (kind : Kind) (s : List ℕ) → joined (stage_parts 0 (stage_by table kind) (inside_by table s)) ≡ inside_by table s
-inside_joined (Some table) kind s = told_joined 0 names.Version (take (version_length table) s)
+inside_joined (Some table) kind s = reported_joined 0 names.Version (take (version_length table) s)
 inside_joined None kind s = ap joined (sym (leaf_staged 0 (outer_kind kind) s)) ∙ leaf_joined 0 (outer_kind kind) s
 
 module _ (kind : Kind) (s : List ℕ) (c : Contents) (h : AreContentsOf kind s c) where

@@ -9,7 +9,7 @@ use Rattle.ndef_format.specs.Positions.{Field, InHead, InType, InId, InPayload, 
 use Rattle.ndef_format.specs.HeadReasons.{is_set, width}
 use Rattle.ndef_piece.specs.Header.{size}
 use Rattle.ndef_piece.specs.HeaderLaws.{header, header_parts, octets_size}
-use Rattle.ndef_piece.specs.Heads.{HeadsAreApart}
+use Rattle.ndef_piece.specs.Heads.{HeadsAreUnambiguous}
 use Rattle.ndef_piece.specs.Whole.{BeginWithPiece, IsSplit}
 use Rattle.ndef_message.specs.Machine.SeenLaws.{piece_head, same_split}
 use Rattle.ndef_piece.specs.HeaderLaws.{id_count}
@@ -20,7 +20,7 @@ use Rattle.ndef_fields.specs.Refusals.{IsNameOf, IsByLengths, id_given, id_lengt
 -- ---- no piece begins there
 
 -- a head, and fewer octets than it announces
-fewer_than_body : HeadsAreApart → (f : HeadFields) (s : List ℕ) → CanBeSpelled f → length s < f.kind_length + (unwrap_or f.id_length 0 + f.payload_length) → ¬ BeginWithPiece (octets f ++ s)
+fewer_than_body : HeadsAreUnambiguous → (f : HeadFields) (s : List ℕ) → CanBeSpelled f → length s < f.kind_length + (unwrap_or f.id_length 0 + f.payload_length) → ¬ BeginWithPiece (octets f ++ s)
 fewer_than_body apart f s c n w =
     let i = w.split in
     let p = w.piece in
@@ -35,7 +35,7 @@ fewer_than_body apart f s c n w =
     let o = ap (λ f. unwrap_or f.id_length 0) h.0 ∙ id_count p.id in
     omega (arith, n, a, b, d, k, m, o)
 
-open_head : HeadsAreApart → (spot : Spot) (xs : List ℕ) → IsOpen spot xs → ¬ BeginWithPiece xs
+open_head : HeadsAreUnambiguous → (spot : Spot) (xs : List ℕ) → IsOpen spot xs → ¬ BeginWithPiece xs
 open_head apart spot xs o w =
     let i = w.split in
     let p = w.piece in
@@ -55,7 +55,7 @@ empty_begins w =
     let b = ap length i.spells.spelled in
     omega (arith, a, b)
 
-pub not_whole : HeadsAreApart → (spot : Spot) (field : Field) → IsProper spot field → ¬ BeginWithPiece (octets_so_far field)
+pub not_whole : HeadsAreUnambiguous → (spot : Spot) (field : Field) → IsProper spot field → ¬ BeginWithPiece (octets_so_far field)
 not_whole apart spot (InHead front) p = open_head apart spot front p
 not_whole apart spot (InType head name) p = let n = p.1 in fewer_than_body apart head name p.0.stands.spelled (omega (arith, n))
 not_whole apart spot (InId head name id) p =
@@ -149,8 +149,8 @@ named_first spot AtEnd p e = refl
 -- ---- after whole pieces
 
 -- the bytes, and what is left of them, are whole pieces before the same octets
-abbrev pub KeepsBehind : List ℕ → List ℕ → Type 0
-KeepsBehind bytes rest = (ps : List Piece) (x tail : List ℕ) → SpellsPieces ps x → ¬ BeginWithPiece tail → bytes ≡ x ++ tail → (qs : List Piece) × (y : List ℕ) × SpellsPieces qs y × (rest ≡ y ++ tail)
+abbrev pub KeepsAfter : List ℕ → List ℕ → Type 0
+KeepsAfter bytes rest = (ps : List Piece) (x tail : List ℕ) → SpellsPieces ps x → ¬ BeginWithPiece tail → bytes ≡ x ++ tail → (qs : List Piece) × (y : List ℕ) × SpellsPieces qs y × (rest ≡ y ++ tail)
 
 pub kept : (qs : List Piece) (y rest tail : List ℕ) → SpellsPieces qs y → ¬ BeginWithPiece tail → rest ≡ y ++ tail → (w : Piece) (short : Bool) (next : List ℕ) → IsSplit w short next rest
     → (os : List Piece) × (z : List ℕ) × SpellsPieces os z × (next ≡ z ++ tail)

@@ -1,4 +1,4 @@
--- The fields of a front of a message, where the next octet stands in a field.
+-- The fields of a front of a message, if the next octet is in a field.
 use Rattle.std.proofs.Common.{◌≡◌, ℕ, ◌+◌, ◌<◌, refl, sym, ◌∙◌, ap, ap₂, arith, List, [], ◌∷◌, ◌++◌, length, length-append, take, drop, take_at, drop_at}
 use Rattle.std.specs.Prelude.{slice_index, unwrap_or}
 use Rattle.std.proofs.lemmas.List.{append-nil, drop_all, drop-drop, take_all}
@@ -9,11 +9,11 @@ use Rattle.ndef_format.specs.declared.spot.Spot.{Spot}
 use Rattle.ndef_format.specs.Positions.{Field, AtEnd, CanBeSpelled, InHead, InId, InPayload, InType, IsOpen, IsProper, octets_so_far, spot_after}
 use Rattle.ndef_piece.specs.Header.{size}
 use Rattle.ndef_piece.specs.HeaderLaws.{header, octets_size}
-use Rattle.ndef_piece.specs.Heads.{HeadsAreApart}
+use Rattle.ndef_piece.specs.Heads.{HeadsAreUnambiguous}
 use Rattle.ndef_fields.specs.declared.name.FieldName.TheVariants as names
 use Rattle.ndef_fields.specs.Befores.{body_given}
 use Rattle.ndef_fields.specs.Fronts.{ArePayloadFront, content_come, front_parts, kind_begun}
-use Rattle.ndef_fields.specs.Parts.{Part, joined, told}
+use Rattle.ndef_fields.specs.Parts.{Part, joined, reported}
 use Rattle.ndef_fields.specs.Refusals.{id_given, lengths_width}
 use Rattle.ndef_fields.specs.SoFar.{FrontsAreSoFar, head_parts, parts_so_far}
 use Rattle.ndef_fields.proofs.FrontLaws.{payload_front_joined, same_pieces, some_payload_front}
@@ -39,15 +39,15 @@ in_type f kind c l =
     let h = slice_index s 0 in
     let tail = drop 2 s in
     let b = head_come f kind c in
-    let behind_kind : drop f.kind_length (body_given h tail) ≡ [] = ap (drop f.kind_length) b.body ∙ drop_all f.kind_length kind (omega (arith, l)) in
+    let past_kind : drop f.kind_length (body_given h tail) ≡ [] = ap (drop f.kind_length) b.body ∙ drop_all f.kind_length kind (omega (arith, l)) in
     record {
       payload_length = b.payload_length;
       id_length = b.id_length;
       kind_is = ap (take f.kind_length) b.body ∙ take_all f.kind_length kind (omega (arith, l));
-      id_is = ap (take (id_given h tail)) behind_kind ∙ take-nil (id_given h tail);
+      id_is = ap (take (id_given h tail)) past_kind ∙ take-nil (id_given h tail);
       content_is =
           sym (drop-drop (id_given h tail) f.kind_length (body_given h tail))
-          ∙ ap (drop (id_given h tail)) behind_kind
+          ∙ ap (drop (id_given h tail)) past_kind
           ∙ drop-nil (id_given h tail);
     }
 
@@ -59,15 +59,15 @@ in_id f kind id c lk li =
     let tail = drop 2 s in
     let b = head_come f (kind ++ id) c in
     let i = b.id_count in
-    let behind_kind : drop f.kind_length (body_given h tail) ≡ id = ap (drop f.kind_length) b.body ∙ drop_at kind id f.kind_length (omega (arith, lk)) in
+    let past_kind : drop f.kind_length (body_given h tail) ≡ id = ap (drop f.kind_length) b.body ∙ drop_at kind id f.kind_length (omega (arith, lk)) in
     record {
       payload_length = b.payload_length;
       id_length = b.id_length;
       kind_is = ap (take f.kind_length) b.body ∙ take_at kind id f.kind_length (omega (arith, lk));
-      id_is = ap (take (id_given h tail)) behind_kind ∙ take_all (id_given h tail) id (omega (arith, i, li));
+      id_is = ap (take (id_given h tail)) past_kind ∙ take_all (id_given h tail) id (omega (arith, i, li));
       content_is =
           sym (drop-drop (id_given h tail) f.kind_length (body_given h tail))
-          ∙ ap (drop (id_given h tail)) behind_kind
+          ∙ ap (drop (id_given h tail)) past_kind
           ∙ drop_all (id_given h tail) id (omega (arith, i, li));
     }
 
@@ -96,7 +96,7 @@ in_head spot (h ∷ k ∷ s) p =
 
 -- the parts of a piece of which these have come
 parts_come : (f : HeadFields) (kind id content s z : List ℕ) (payload : List Part) → s ≡ octets f ++ z → Come f kind id content (octets f ++ z)
-    → front_parts 0 s payload ≡ head_parts f (told 0 names.Kind kind ++ (told 0 names.Id id ++ payload))
+    → front_parts 0 s payload ≡ head_parts f (reported 0 names.Kind kind ++ (reported 0 names.Id id ++ payload))
 parts_come f kind id content s z payload e c = rw e (rw (c.payload_length, c.id_length, c.kind_is, c.id_is) refl)
 
 so_far : (spot : Spot) (field : Field) (s : List ℕ) (payload : List Part) → IsProper spot field → s ≡ octets_so_far field
@@ -106,19 +106,19 @@ so_far spot (InHead front) s payload p e h =
 so_far spot (InType f kind) s payload p e h =
     let c = in_type f kind p.0.stands.spelled p.1 in
     parts_come f kind [] [] s kind payload e c
-    ∙ ap (λ x. head_parts f (told 0 names.Kind kind ++ x)) (no_payload s payload h (ap content_come e ∙ c.content_is))
-    ∙ ap (head_parts f) (append-nil (told 0 names.Kind kind))
+    ∙ ap (λ x. head_parts f (reported 0 names.Kind kind ++ x)) (no_payload s payload h (ap content_come e ∙ c.content_is))
+    ∙ ap (head_parts f) (append-nil (reported 0 names.Kind kind))
 so_far spot (InId f kind id) s payload p e h =
     let c = in_id f kind id p.0.stands.spelled p.1 p.2 in
     parts_come f kind id [] s (kind ++ id) payload e c
-    ∙ ap (λ x. head_parts f (told 0 names.Kind kind ++ (told 0 names.Id id ++ x))) (no_payload s payload h (ap content_come e ∙ c.content_is))
-    ∙ ap (λ x. head_parts f (told 0 names.Kind kind ++ x)) (append-nil (told 0 names.Id id))
+    ∙ ap (λ x. head_parts f (reported 0 names.Kind kind ++ (reported 0 names.Id id ++ x))) (no_payload s payload h (ap content_come e ∙ c.content_is))
+    ∙ ap (λ x. head_parts f (reported 0 names.Kind kind ++ x)) (append-nil (reported 0 names.Id id))
 so_far spot (InPayload f kind id content) s payload p e h =
     parts_come f kind id content s (kind ++ (id ++ content)) payload e (come f kind id content p.0.stands.spelled p.1 p.2)
 so_far spot AtEnd s payload p e h =
     ap₂ (front_parts 0) e (no_payload s payload h (ap content_come e ∙ drop-nil (slice_index [] 1 + id_given (slice_index [] 0) [])))
 
-pub fronts_are_so_far : HeadsAreApart → FrontsAreSoFar
+pub fronts_are_so_far : HeadsAreUnambiguous → FrontsAreSoFar
 fronts_are_so_far apart limits bytes parts f runs begun field a =
     let w = f.whole in
     let spot = spot_after limits runs begun in

@@ -27,7 +27,7 @@ IsFieldBefore (InPayload head kind id content) (Payload p) =
 IsFieldBefore field (Head name) = IsNameOf field name
 IsFieldBefore field (Payload p) = ⊥
 
--- NDEF 1.0, messages: the byte after these stands in this field, whatever the limits and the
+-- NDEF 1.0, messages: the byte after these is in this field, for any limits and any
 -- message that they begin
 abbrev pub IsBefore : List ℕ → Before → Type 0
 IsBefore bytes before =
@@ -40,7 +40,7 @@ IsBeforeBy header kind_length tail before = (spot : Spot) (field : Field)
     → IsProper spot field → header ∷ kind_length ∷ tail ≡ octets_so_far field
     → IsFieldBefore field before
 
--- NDEF 1.0, messages: the bytes but the last are a front of a message, and the last stands in this
+-- NDEF 1.0, messages: the bytes but the last are a front of a message, and the last is in this
 -- field
 pub record StandsIn (bytes : List ℕ) (field : Field) (octet : ℕ) : Type 0 where
   pub front : List ℕ
@@ -50,7 +50,7 @@ pub record StandsIn (bytes : List ℕ) (field : Field) (octet : ℕ) : Type 0 wh
   pub begun : List Piece
   pub at : IsAt limits front runs begun field
 
--- the last byte stands in this field
+-- the last byte is in this field
 abbrev pub IsBeforeLast : List ℕ → Before → Type 0
 IsBeforeLast bytes before =
     (field : Field) (octet : ℕ) → StandsIn bytes field octet → IsFieldBefore field before

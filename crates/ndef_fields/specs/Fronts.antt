@@ -1,4 +1,4 @@
--- In which field each octet of a front of a message stands.
+-- The field of each octet of a front of a message.
 use Rattle.std.specs.Prelude.{◌≡◌, ℕ, Option, Some, None, List, ◌++◌, take, drop, slice_index}
 use Rattle.ndef_format.specs.Records.{tnf_of}
 use Rattle.ndef_format.specs.Kinds.{kind_of, outer_kind}
@@ -13,7 +13,7 @@ use Rattle.ndef_fields.specs.declared.name.FieldName.TheVariants as names
 use Rattle.ndef_fields.specs.Befores.{body_given, content_given}
 use Rattle.ndef_fields.specs.Lasts.{kind_there}
 use Rattle.ndef_fields.specs.Messages.{AreParts, IsInnerOwn, IsOuterOwn, version_length}
-use Rattle.ndef_fields.specs.Parts.{Part, told}
+use Rattle.ndef_fields.specs.Parts.{Part, reported}
 use Rattle.ndef_fields.specs.Payloads.{leaf_parts}
 use Rattle.ndef_fields.specs.Refusals.{AreWholeBefore, id_given, id_length_width}
 
@@ -50,11 +50,11 @@ tnf_come s = tnf_of (tnf_number (slice_index s 0))
 -- payload
 abbrev pub front_parts : ℕ → List ℕ → List Part → List Part
 front_parts depth s payload =
-    told depth names.Header (take 1 s)
-    ++ (told depth names.KindLength (take 1 (drop 1 s))
-    ++ (told depth names.PayloadLength (payload_length_come s)
-    ++ (told depth names.IdLength (id_length_come s)
-    ++ (told depth names.Kind (kind_come s) ++ (told depth names.Id (id_come s) ++ payload)))))
+    reported depth names.Header (take 1 s)
+    ++ (reported depth names.KindLength (take 1 (drop 1 s))
+    ++ (reported depth names.PayloadLength (payload_length_come s)
+    ++ (reported depth names.IdLength (id_length_come s)
+    ++ (reported depth names.Kind (kind_come s) ++ (reported depth names.Id (id_come s) ++ payload)))))
 
 -- the octets of the fields before its payload
 pub record IsHeadOctets (s : List ℕ) (head : HeadOctets) : Type 0 where
@@ -91,7 +91,7 @@ pub record AreNestedFront (table : Table) (bytes : List ℕ) (parts : List Part)
 -- nested message: a version octet in a handover, and the message
 abbrev pub AreNestFront : Table → List ℕ → List Part → Type 0
 AreNestFront table s parts =
-    (inner : List Part) × (parts ≡ told 0 names.Version (take (version_length table) s) ++ inner)
+    (inner : List Part) × (parts ≡ reported 0 names.Version (take (version_length table) s) ++ inner)
     × AreNestedFront table (drop (version_length table) s) inner
 
 -- the parts of a front of a payload of a kind, which holds this message or none
@@ -104,7 +104,7 @@ abbrev pub ArePayloadFront : Kind → List ℕ → List Part → Type 0
 ArePayloadFront kind = AreFrontBy (table_in kind) kind
 
 -- NDEF 1.0, chunked payloads: the kind of a payload of which a front has come; none in several
--- pieces is looked into
+-- pieces is validated
 abbrev pub kind_begun : List ℕ → Kind
 kind_begun s = kind_there (is_set 5 (slice_index s 0)) (kind_of (tnf_come s) (kind_come s))
 

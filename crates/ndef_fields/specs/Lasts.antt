@@ -28,7 +28,7 @@ EndsIn [] name = ⊥
 EndsIn (part ∷ []) name = name ≡ part.name
 EndsIn (part ∷ next ∷ parts) name = EndsIn (next ∷ parts) name
 
--- RTD Smart Poster 1.0 and Connection Handover 1.2: the name of the octet that stands in this field
+-- RTD Smart Poster 1.0 and Connection Handover 1.2: the name of the octet that is in this field
 -- of a nested message
 abbrev pub IsInnerField : Table → Field → ℕ → FieldName → Type 0
 IsInnerField table (InPayload head kind id content) octet name =
@@ -65,23 +65,23 @@ abbrev pub IsPayloadLast : Kind → List ℕ → ByteField → Type 0
 IsPayloadLast kind = IsLastBy (table_in kind) kind
 
 -- NDEF 1.0, chunked payloads: the kind of the payload of a piece; a payload in several pieces isn't
--- looked into
+-- validated
 abbrev pub kind_there : Bool → Kind → Kind
 kind_there chunked kind = if chunked then kinds.Other else kind
 
--- NDEF 1.0, record layout: the octet stands in this field
+-- NDEF 1.0, record layout: the octet is in this field
 abbrev pub IsFieldOf : Field → ℕ → ByteField → Type 0
 IsFieldOf (InPayload head kind id content) octet byte =
     IsPayloadLast (kind_there head.chunked (kind_of (tnf_of head.tnf) kind)) (content
     ++ octet ∷ []) byte
 IsFieldOf field octet byte = (byte.depth ≡ 0) × IsNameOf field byte.name
 
--- NDEF 1.0, messages: the last of these bytes stands in this field
+-- NDEF 1.0, messages: the last of these bytes is in this field
 abbrev pub IsFieldOfLast : List ℕ → ByteField → Type 0
 IsFieldOfLast bytes byte =
     (field : Field) (octet : ℕ) → StandsIn bytes field octet → IsFieldOf field octet byte
 
--- the reason of a refusal rests on a field of the byte, and the byte stands in it
+-- the reason of a refusal rests on a field of the byte, and the byte is in it
 pub record RestsOn (limits : LimitValues) (input : List ℕ) (refusal : Refusal) (byte : ByteField) : Type 0 where
   pub runs : List Run
   pub begun : List Piece

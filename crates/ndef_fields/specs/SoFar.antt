@@ -7,26 +7,26 @@ use Rattle.ndef_format.specs.Messages.{all_pieces}
 use Rattle.ndef_format.specs.Positions.{Field, AtEnd, InHead, InId, InPayload, InType, IsAt, octets_so_far}
 use Rattle.ndef_fields.specs.declared.name.FieldName.TheVariants as names
 use Rattle.ndef_fields.specs.Fronts.{AreFrontParts, front_parts}
-use Rattle.ndef_fields.specs.Parts.{Part, told}
+use Rattle.ndef_fields.specs.Parts.{Part, reported}
 
 -- NDEF 1.0, record layout: the parts of the head of a piece, and then these
 abbrev pub head_parts : HeadFields → List Part → List Part
 head_parts head more =
-    told 0 names.Header
+    reported 0 names.Header
     (header_octet head.first head.last head.chunked head.short (is_some head.id_length) head.tnf ∷ [])
-    ++ (told 0 names.KindLength (head.kind_length ∷ [])
-    ++ (told 0 names.PayloadLength (payload_length_octets head.short head.payload_length)
-    ++ (told 0 names.IdLength (id_length_octets head.id_length) ++ more)))
+    ++ (reported 0 names.KindLength (head.kind_length ∷ [])
+    ++ (reported 0 names.PayloadLength (payload_length_octets head.short head.payload_length)
+    ++ (reported 0 names.IdLength (id_length_octets head.id_length) ++ more)))
 
--- NDEF 1.0, record layout: the parts of what has come of a piece, where the next octet stands in
+-- NDEF 1.0, record layout: the parts of a piece so far, if the next octet is in
 -- this field; `payload` are those of its payload
 abbrev pub parts_so_far : Field → (payload : List Part) → List Part
 parts_so_far (InHead front) payload = front_parts 0 front []
-parts_so_far (InType head name) payload = head_parts head (told 0 names.Kind name)
+parts_so_far (InType head name) payload = head_parts head (reported 0 names.Kind name)
 parts_so_far (InId head name id) payload =
-    head_parts head (told 0 names.Kind name ++ told 0 names.Id id)
+    head_parts head (reported 0 names.Kind name ++ reported 0 names.Id id)
 parts_so_far (InPayload head name id content) payload =
-    head_parts head (told 0 names.Kind name ++ (told 0 names.Id id ++ payload))
+    head_parts head (reported 0 names.Kind name ++ (reported 0 names.Id id ++ payload))
 parts_so_far AtEnd payload = []
 
 -- NDEF 1.0, messages: the parts are those of these pieces, and of what has come of one more

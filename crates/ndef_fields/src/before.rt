@@ -6,14 +6,14 @@ ghost use Rattle.ndef_fields.specs.Befores.{IsBefore, IsBeforeBy, IsBeforeLast, 
 ghost use Rattle.ndef_fields.specs.Refusals.{NamesNext};
 
 use crate::FieldName;
-use crate::heads::{behind_pieces, id_length_in, name_by};
+use crate::heads::{after_pieces, id_length_in, name_by};
 use crate::left::id_width;
 use ndef_format::header::{CHUNK, is_set, width};
-use ndef_piece::{header_tnf, heads_are_apart};
+use ndef_piece::{header_tnf, heads_are_unambiguous};
 use ndef_value::Tnf;
 
 /// The part of a payload that comes before a byte of it.
-#[derive(Clone, Copy, Debug)]
+#[derive(Clone, Copy)]
 pub(crate) struct PayloadBefore<'a> {
     /// CF of its piece: whether another piece of the record follows.
     pub chunked: bool,
@@ -26,7 +26,7 @@ pub(crate) struct PayloadBefore<'a> {
 }
 
 /// The field of a byte.
-#[derive(Clone, Copy, Debug)]
+#[derive(Clone, Copy)]
 pub(crate) enum Before<'a> {
     /// A field before the payload.
     Head(FieldName),
@@ -34,8 +34,8 @@ pub(crate) enum Before<'a> {
     Payload(PayloadBefore<'a>),
 }
 
-/// What is left after the first `count` octets, nothing where there are fewer.
-pub(crate) fn behind(octets: &[u8], count: usize) -> &[u8]
+/// Returns the octets after the first `count`, none if there are fewer.
+pub(crate) fn following(octets: &[u8], count: usize) -> &[u8]
     ensures { result.now ≡ drop count octets.now }
 {
     octets.split_at(count.min(octets.len())).1
@@ -55,14 +55,14 @@ fn payload_before(header: u8, kind_length: u8, tail: &[u8]) -> PayloadBefore<'_>
     ensures kind { result.kind.now ≡ take kind_length (body_given header tail.now) }
     ensures count { result.count ≡ length (content_given header kind_length tail.now) }
 {
-    let body = behind(tail, width(header) + id_width(header));
+    let body = following(tail, width(header) + id_width(header));
     let kind_length = usize::from(kind_length);
     let id_length = usize::from(id_length_in(header, tail));
     PayloadBefore {
         chunked: is_set(CHUNK, header),
         tnf: header_tnf(header),
         kind: front_of(body, kind_length),
-        count: behind(body, kind_length + id_length).len(),
+        count: following(body, kind_length + id_length).len(),
     }
 }
 
@@ -84,8 +84,8 @@ pub(crate) fn next_field(bytes: &[u8]) -> Before<'_>
     ensures { IsBefore bytes.now result }
 {
     // For the proof alone.
-    heads_are_apart();
-    match behind_pieces(bytes) {
+    heads_are_unambiguous();
+    match after_pieces(bytes) {
         [] => Before::Head(FieldName::Header),
         [_] => Before::Head(FieldName::KindLength),
         [header, kind_length, tail @ ..] => before_by(*header, *kind_length, tail),
@@ -99,8 +99,8 @@ pub(crate) fn before_last(bytes: &[u8]) -> Before<'_>
     next_field(front_of(bytes, bytes.len().saturating_sub(1)))
 }
 
-/// The field of the byte after these, where they are a front of a message (NDEF 1.0, record
-/// layout). It says [`FieldName::Payload`] of each byte of a payload.
+/// Returns the field of the byte after these, if they are a front of a message (NDEF 1.0, record
+/// layout). It is [`FieldName::Payload`] for each byte of a payload.
 pub fn next_name(bytes: &[u8]) -> FieldName
     ensures { NamesNext bytes.now result }
 {

@@ -9,7 +9,7 @@ ghost use Rattle.ndef_fields.specs.Lasts.{kind_there};
 
 use crate::cursor::Cursor;
 use crate::front::{PieceFront, piece_front};
-use crate::heads::behind_pieces;
+use crate::heads::after_pieces;
 use crate::inside::Inside;
 use crate::left::Left;
 use crate::payload::{Contents, contents_of};
@@ -20,7 +20,7 @@ use ndef_nest::Table;
 use ndef_piece::header_tnf;
 
 /// The fields of a front of a piece, of which the payload may hold a nested message.
-#[derive(Clone, Copy, Debug)]
+#[derive(Clone, Copy)]
 pub(crate) struct Begun<'a> {
     /// Its fields, and those of the whole pieces of the nested message.
     pub outer: Cursor<'a>,
@@ -80,7 +80,7 @@ pub(crate) fn begin_with<'a>(
     requires { WithinEnd at end left contents }
     ensures { AreBegunWith at left.entry contents.entry result }
 {
-    let tail = behind_pieces(contents.inner);
+    let tail = after_pieces(contents.inner);
     let (inner, _) = contents.inner.split_at(contents.inner.len() - tail.len());
     Begun {
         outer: Cursor {

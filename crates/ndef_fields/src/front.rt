@@ -3,7 +3,7 @@ ghost use Rattle.std.specs.Prelude.{◌≡◌, length, slice_index};
 ghost use Rattle.ndef_format.specs.Kinds.{kind_of};
 ghost use Rattle.ndef_fields.specs.Fronts.{IsPieceFront, kind_begun, kind_come, tnf_come};
 
-use crate::before::{behind, front_of};
+use crate::before::{following, front_of};
 use crate::heads::id_length_in;
 use crate::left::id_width;
 use crate::stage::first;
@@ -44,21 +44,21 @@ pub struct PieceFront<'a> {
 pub fn piece_front(octets: &[u8]) -> PieceFront<'_>
     ensures { IsPieceFront octets.now result }
 {
-    let (header, tail) = (first(octets), behind(octets, 2));
+    let (header, tail) = (first(octets), following(octets, 2));
     let (lengths, there) = (width(header), id_width(header));
-    let kind_length = usize::from(first(behind(octets, 1)));
+    let kind_length = usize::from(first(following(octets, 1)));
     let id_length = usize::from(id_length_in(header, tail));
-    let body = behind(tail, lengths + there);
+    let body = following(tail, lengths + there);
     PieceFront {
         header,
         head: HeadOctets {
             header: front_of(octets, 1),
-            kind_length: front_of(behind(octets, 1), 1),
+            kind_length: front_of(following(octets, 1), 1),
             payload_length: front_of(tail, lengths),
-            id_length: front_of(behind(tail, lengths), there),
+            id_length: front_of(following(tail, lengths), there),
             kind: front_of(body, kind_length),
-            id: front_of(behind(body, kind_length), id_length),
+            id: front_of(following(body, kind_length), id_length),
         },
-        content: behind(body, kind_length + id_length),
+        content: following(body, kind_length + id_length),
     }
 }

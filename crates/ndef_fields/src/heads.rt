@@ -1,7 +1,7 @@
 //! The head of a piece of which only a front has come.
 ghost use Rattle.std.specs.Prelude.{◌≡◌, ◌+◌, ◌≤◌, length};
 ghost use Rattle.ndef_format.specs.HeadReasons.{width};
-ghost use Rattle.ndef_fields.specs.Refusals.{AreWholeBefore, ends_in_chunk, id_given, IsBehindPieces, IsByLengths};
+ghost use Rattle.ndef_fields.specs.Refusals.{AreWholeBefore, ends_in_chunk, id_given, IsAfterPieces, IsByLengths};
 
 use crate::FieldName;
 use crate::left::id_width;
@@ -9,8 +9,8 @@ use ndef_format::header::{CHUNK, is_set, width};
 use ndef_piece::whole_piece;
 
 /// The bytes after the whole pieces at the front.
-pub(crate) fn behind_pieces(bytes: &[u8]) -> &[u8]
-    ensures behind { IsBehindPieces bytes.now result.now }
+pub(crate) fn after_pieces(bytes: &[u8]) -> &[u8]
+    ensures following { IsAfterPieces bytes.now result.now }
     ensures whole { AreWholeBefore bytes.now result.now }
 {
     let mut rest = bytes;
@@ -31,7 +31,7 @@ pub struct WholePieces<'a> {
     pub rest: &'a [u8],
 }
 
-/// The whole pieces at the front of some bytes, and what follows them (NDEF 1.0, messages and record layout).
+/// The whole pieces at the front of some bytes, and the rest after them (NDEF 1.0, messages and record layout).
 pub fn whole_pieces(bytes: &[u8]) -> WholePieces<'_>
     ensures whole { (whole : AreWholeBefore bytes.now result.rest.now) × (result.count ≡ length whole.pieces) }
     ensures chunk { (whole : AreWholeBefore bytes.now result.rest.now)

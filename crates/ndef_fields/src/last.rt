@@ -6,7 +6,7 @@ ghost use Rattle.ndef_fields.specs.Lasts.{kind_there};
 ghost use Rattle.ndef_fields.specs.Stages.{stage_parts, stage_rank};
 
 use crate::FieldName;
-use crate::before::{Before, PayloadBefore, before_last, behind};
+use crate::before::{Before, PayloadBefore, before_last, following};
 use crate::stage::Stage;
 use ndef_lang::Kind;
 use ndef_nest::Table;
@@ -42,7 +42,7 @@ fn last_name(first: Stage, octets: &[u8]) -> FieldName
 fn back(bytes: &[u8], count: usize) -> &[u8]
     ensures { result.now ≡ drop (length bytes.now - 1 - count) bytes.now }
 {
-    behind(bytes, bytes.len().saturating_sub(1).saturating_sub(count))
+    following(bytes, bytes.len().saturating_sub(1).saturating_sub(count))
 }
 
 /// The field of the last of these bytes, where the others are a front of a nested message.
@@ -111,11 +111,11 @@ fn kind_before(payload: &PayloadBefore<'_>) -> Kind
     }
 }
 
-/// The field of the last of these bytes, where the others are a front of a message (NDEF 1.0, record layout; RTD Text
-/// 1.0, RTD URI 1.0, RTD Smart Poster 1.0 and Connection Handover 1.2). Given the bytes of an input up to and including
-/// a refused one, it gives the field in which the refused byte stands.
+/// Returns the field of the last of these bytes, if the others are a front of a message (NDEF 1.0, record layout; RTD
+/// Text 1.0, RTD URI 1.0, RTD Smart Poster 1.0 and Connection Handover 1.2). Given the bytes of an input up to and
+/// including a refused one, it returns the field of the refused byte.
 ///
-/// A payload that comes in several pieces is one field of each.
+/// A payload that comes in several pieces is one field in each of them.
 pub fn field_of_last(bytes: &[u8]) -> ByteField
     ensures { IsFieldOfLast bytes.now result }
 {

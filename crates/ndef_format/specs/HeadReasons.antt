@@ -39,17 +39,17 @@ head_field (header ∷ []) = TypeLength
 head_field (header ∷ kind ∷ xs) =
     if nat_lt (length xs) (width header) then PayloadLength else IdLength
 
--- the octet stands in the header
+-- the octet is in the header
 abbrev pub in_header : HeadField → Bool
 in_header HeaderOctet = true
 in_header _ = false
 
--- the octet stands in TYPE_LENGTH
+-- the octet is in TYPE_LENGTH
 abbrev pub in_type_length : HeadField → Bool
 in_type_length TypeLength = true
 in_type_length _ = false
 
--- the octet stands in PAYLOAD_LENGTH
+-- the octet is in PAYLOAD_LENGTH
 abbrev pub in_payload_length : HeadField → Bool
 in_payload_length PayloadLength = true
 in_payload_length _ = false

@@ -1,4 +1,4 @@
--- Which kinds of payload the types of records name (NFC Forum, RTD 1.0, well-known types).
+-- The kinds of payload that the types of records name (NFC Forum, RTD 1.0, well-known types).
 use Rattle.std.specs.Prelude.{ℕ, List, [], ◌∷◌, codes, bytes_eq, if◌then◌else◌, ◌≡◌, ◌≢◌, ◌<◌, ◌≤◌, length}
 use Rattle.std.specs.List.{AllByRecursion}
 use Rattle.ndef_format.specs.declared.kind.Kind.{Kind}

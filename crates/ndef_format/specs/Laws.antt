@@ -1,4 +1,4 @@
--- What holds of the format.
+-- The laws of the format.
 use Rattle.std.specs.Prelude.{◌≡◌, ℕ, ◌+◌, List, [], ◌++◌, ◌≢◌, true, map, ◌≤◌, length, take, ◌<◌, ⊤, ◌∷◌, ◌⊎◌}
 use Rattle.std.specs.List.{AllByRecursion}
 use Rattle.ndef_format.specs.Messages.{Item, Spells, SpellsBy}
@@ -22,7 +22,7 @@ abbrev pub OneMeaning : Type 0
 OneMeaning = (p q : Profile) (m n : List Item) (front whole rest : List ℕ)
     → Spells p m front → Spells q n whole → whole ≡ front ++ rest → (m ≡ n) × (rest ≡ [])
 
--- What a strict reader takes as a message, each reader does, as the same message.
+-- A message that a strict reader takes is the same message for each reader.
 abbrev pub StrictIsRead : Type 0
 StrictIsRead = (profile : Profile) (m : List Item) (bytes : List ℕ) → Spells Strict m bytes → Spells profile m bytes
 
@@ -43,7 +43,7 @@ abbrev pub CanonicalIsShortest : Type 0
 CanonicalIsShortest = (profile : Profile) (m : List Item) (bytes : List ℕ)
     → Spells profile m bytes → length (canonical m) ≤ length bytes
 
--- What is accepted is accepted in the canonical spelling too, as the same message.
+-- A message that is accepted is accepted in the canonical spelling too, as the same message.
 abbrev pub CanonicalIsAccepted : Sets → Type 0
 CanonicalIsAccepted set = (limits : LimitValues) (m : List Item) (bytes : List ℕ) → AreInRange limits
     → Accepted set limits m bytes → Accepted set limits m (canonical m)
@@ -75,12 +75,12 @@ TypesStay set = (tnf : Tnf) (name : List ℕ) (records more : ℕ) (profile othe
 abbrev pub IsNoName : List ℕ → Type 0
 IsNoName name = (name ≡ []) ⊎ ((front rest : List ℕ) × (name ≡ front ++ 0 ∷ rest))
 
--- What is accepted is accepted within wider limits, as the same message.
+-- A message that is accepted is accepted within wider limits, as the same message.
 abbrev pub WiderAccept : Sets → Type 0
 WiderAccept set = (limits wider : LimitValues) (m : List Item) (bytes : List ℕ)
     → AreWider limits wider → Accepted set limits m bytes → Accepted set wider m bytes
 
--- Whatever the limits, some message within them has the greatest length.
+-- For any limits, some message within them has the greatest length.
 abbrev pub GreatestIsReached : Sets → Type 0
 GreatestIsReached set = (limits : LimitValues) → AreInRange limits
     → (m : List Item) × (bytes : List ℕ) × Accepted set limits m bytes × (length bytes ≡ greatest_length limits)
@@ -92,7 +92,7 @@ abbrev pub OnePlace : Sets → Type 0
 OnePlace set = (limits : LimitValues) (bytes : List ℕ) (p q : ℕ)
     → IsPlace set limits bytes p → IsPlace set limits bytes q → p ≡ q
 
--- Where there is a place no bytes at the front are a message.
+-- If there is a place, no bytes at the front are a message.
 abbrev pub NoPrefixIsAccepted : Sets → Type 0
 NoPrefixIsAccepted set = (limits : LimitValues) (bytes : List ℕ) (place count : ℕ)
     → IsPlace set limits bytes place → ¬ IsAccepted set limits (take count bytes)
@@ -102,7 +102,7 @@ abbrev pub OneRefusal : Sets → Conditions → Type 0
 OneRefusal set holds = (limits : LimitValues) (bytes : List ℕ) (refusal other : Refusal)
     → Refuses set holds limits bytes refusal → Refuses set holds limits bytes other → refusal ≡ other
 
--- What is refused, and why, follows from the bytes up to the refused one, whatever follows it.
+-- A refusal, and its reason, follow from the bytes up to the refused one, whatever follows it.
 abbrev pub RefusalsAreLocal : Sets → Conditions → Type 0
 RefusalsAreLocal set holds = (limits : LimitValues) (bytes other : List ℕ) (refusal : Refusal)
     → refusal.at < length bytes → refusal.at < length other → take (refusal.at + 1) bytes ≡ take (refusal.at + 1) other

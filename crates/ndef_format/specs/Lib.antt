@@ -1,6 +1,6 @@
 -- The format, in the order in which it can be read.
 
--- what is accepted
+-- the messages that are accepted
 pub mod Records
 pub mod Messages
 pub mod Limits
@@ -12,7 +12,7 @@ pub mod Handovers
 pub mod Nested
 pub mod Payloads
 pub mod Accepted
--- what is written
+-- the bytes that are written
 pub mod Canonical
 -- where and why other bytes are refused
 pub mod Positions
@@ -21,7 +21,7 @@ pub mod HeadReasons
 pub mod PayloadReasons
 pub mod NestedReasons
 pub mod Refusals
--- what is printed, and what holds of all this
+-- the texts that are printed, and the laws of all this
 pub mod Shown
 pub mod Sentences
 pub mod Laws

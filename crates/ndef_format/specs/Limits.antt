@@ -1,4 +1,4 @@
--- How large a message may be that is read, and who reads it (limits of the reader, not of the
+-- The greatest size of a message that is read, and the profile of its reader (limits of the reader, not of the
 -- standard).
 use Rattle.std.specs.Prelude.{ℕ, ◌^◌, ◌<◌, ◌≤◌, List, length, ◌+◌, ◌*◌}
 use Rattle.std.specs.List.{AllByRecursion}

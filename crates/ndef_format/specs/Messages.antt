@@ -1,4 +1,4 @@
--- What the bytes of a message are (NFC Forum, NDEF 1.0, messages and chunked payloads).
+-- The bytes of a message (NFC Forum, NDEF 1.0, messages and chunked payloads).
 use Rattle.std.specs.Prelude.{ℕ, List, [], unwrap_or, ◌≢◌, length, ◌≡◌, true, false, ◌∷◌, map, Bool, ◌++◌}
 use Rattle.std.specs.List.{flat_map, AllByRecursion}
 use Rattle.ndef_format.specs.Records.{Piece, tnf_of, Run, pieces, HasShape, IsRun, SpellsPiece}
@@ -6,7 +6,7 @@ use Rattle.ndef_format.specs.declared.tnf.Tnf.{Tnf}
 use Rattle.ndef_format.specs.declared.tnf.Tnf.TheVariants.{Unchanged}
 use Rattle.ndef_format.specs.declared.profile.Profile.{Profile}
 
--- what a run means
+-- the meaning of a run
 pub record Item : Type 0 where
   pub tnf : Tnf
   pub kind : List ℕ

@@ -30,7 +30,7 @@ HasUri [] = ⊥
 HasUri (r ∷ runs) =
     (kind_in SmartPoster (tnf_of r.initial.tnf) r.initial.kind ≡ kinds.Uri) ⊎ HasUri runs
 
--- RTD Smart Poster 1.0: the field of a last record that no URI comes before says that it isn't one
+-- RTD Smart Poster 1.0: the field of a last record that no URI comes before shows that it isn't one
 abbrev pub IsUriMissing : Field → ℕ → Type 0
 IsUriMissing (InHead []) b = (is_set 6 b ≡ true) × (tnf_number b ≢ 1)
 IsUriMissing (InHead (header ∷ [])) b = (is_set 6 header ≡ true) × (b ≢ 1)
@@ -43,7 +43,7 @@ IsUriAgain (InType head name) b =
     (tnf_of head.tnf ≡ WellKnown) × (head.kind_length ≡ 1) × (b ≡ 0x55)
 IsUriAgain _ b = ⊥
 
--- Connection Handover 1.2: the field of a first record says that it is no collision resolution
+-- Connection Handover 1.2: the field of a first record shows that it is no collision resolution
 abbrev pub IsCollisionMissing : Field → ℕ → Type 0
 IsCollisionMissing (InHead []) b = tnf_number b ≢ 1
 IsCollisionMissing (InHead (header ∷ [])) b = b ≢ 2

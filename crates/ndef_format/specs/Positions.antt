@@ -1,4 +1,4 @@
--- The field of the next octet of a message, and what stands before it (NFC Forum, NDEF 1.0, record
+-- The field of the next octet of a message, and the octets before it (NFC Forum, NDEF 1.0, record
 -- layout).
 use Rattle.std.specs.Prelude.{◌^◌, ◌<◌, unwrap_or, ◌≡◌, ◌≢◌, ◌≤◌, true, false, None, ℕ, ◌+◌, List, ◌∷◌, ◌++◌, [], length, ⊤, Bool, ◌-◌, ◌==◌, ◌&&◌, not, Option, Some}
 use Rattle.std.specs.List.{AllByRecursion}
@@ -7,7 +7,7 @@ use Rattle.ndef_format.specs.Messages.{payload_of, EndsOnce, SpellsPieces, all_p
 use Rattle.ndef_format.specs.Limits.{LimitValues}
 use Rattle.ndef_format.specs.declared.spot.Spot.{Spot}
 
--- NDEF 1.0, record layout: each field has room in its octets
+-- NDEF 1.0, record layout: each field fits in its octets
 pub record CanBeSpelled (f : HeadFields) : Type 0 where
   pub tnf : f.tnf < 8
   pub kind : f.kind_length < 256
@@ -15,8 +15,8 @@ pub record CanBeSpelled (f : HeadFields) : Type 0 where
   pub form : FitsForm f.short f.payload_length
   pub id : unwrap_or f.id_length 0 < 256
 
--- NDEF 1.0, record layout and chunked payloads: a piece with these fields may stand at the spot
-pub record MayStand (spot : Spot) (f : HeadFields) : Type 0 where
+-- NDEF 1.0, record layout and chunked payloads: a piece with these fields may occur at the spot
+pub record MayOccur (spot : Spot) (f : HeadFields) : Type 0 where
   pub spelled : CanBeSpelled f
   -- a strict reader refuses the reserved type name format
   pub read : IsRead spot.profile f.tnf
@@ -34,17 +34,17 @@ pub record MayStand (spot : Spot) (f : HeadFields) : Type 0 where
   pub followed : f.chunked ≡ false → f.last ≡ false → spot.last_record ≡ false
   pub room : f.payload_length ≤ spot.room
 
--- the octets are a front of some head that may stand at the spot, and not the whole of it
+-- the octets are a front of some head that may occur at the spot, and not the whole of it
 pub record IsOpen (spot : Spot) (xs : List ℕ) : Type 0 where
   pub fields : HeadFields
-  pub stands : MayStand spot fields
+  pub stands : MayOccur spot fields
   pub next : ℕ
   pub rest : List ℕ
   pub spelled : octets fields ≡ xs ++ next ∷ rest
 
 -- NDEF 1.0, messages and chunked payloads: the rules of a message for one piece, of MB, ME and CF,
 -- of the type name formats of runs, of the shape of records, and of the limits
-pub record Stands (spot : Spot) (p : Piece) : Type 0 where
+pub record IsConsistentAt (spot : Spot) (p : Piece) : Type 0 where
   -- MB in the first piece of the message and in no other
   pub begins : p.first ≡ spot.first
   -- an initial piece has the shape of its record, except for a payload that continues
@@ -80,14 +80,14 @@ octets_so_far (InId head name id) = octets head ++ (name ++ id)
 octets_so_far (InPayload head name id content) = octets head ++ (name ++ (id ++ content))
 octets_so_far AtEnd = []
 
--- NDEF 1.0, record layout: the octets are a front of a piece, whose head may stand at the spot
+-- NDEF 1.0, record layout: the octets are a front of a piece, whose head may occur at the spot
 pub record IsPart (spot : Spot) (head : HeadFields) (name id content : List ℕ) : Type 0 where
-  pub stands : MayStand spot head
+  pub stands : MayOccur spot head
   pub name_octets : AreOctets name
   pub id_octets : AreOctets id
   pub content_octets : AreOctets content
 
--- another octet of the field is to come, of a piece that may stand at the spot
+-- another octet of the field is to come, of a piece that may occur at the spot
 abbrev pub IsProper : Spot → Field → Type 0
 IsProper spot (InHead front) = IsOpen spot front
 IsProper spot (InType head name) = IsPart spot head name [] [] × (length name < head.kind_length)
@@ -100,14 +100,14 @@ IsProper spot (InPayload head name id content) =
     × (length content < head.payload_length)
 IsProper spot AtEnd = ⊤
 
--- ---- what stands before a field
+-- -- the pieces before a field
 
 -- no run is open
 abbrev pub is_between : (begun : List Piece) → Bool
 is_between [] = true
 is_between (p ∷ begun) = false
 
--- NDEF 1.0, messages and chunked payloads: where a piece stands, after whole runs and the pieces of
+-- NDEF 1.0, messages and chunked payloads: the spot of a piece, after whole runs and the pieces of
 -- an open one
 abbrev pub spot_after : LimitValues → List Run → (begun : List Piece) → Spot
 spot_after limits runs begun = record {
@@ -119,27 +119,27 @@ spot_after limits runs begun = record {
   room = limits.payload - length (payload_of begun);
 }
 
--- each of these pieces stands after those before it, after these runs and the first pieces of an
+-- each of these pieces may follow those before it, after these runs and the first pieces of an
 -- open one
-abbrev pub PiecesStand : LimitValues → List Run → (begun ps : List Piece) → Type 0
-PiecesStand limits runs begun [] = ⊤
-PiecesStand limits runs begun (p ∷ ps) =
-    Stands (spot_after limits runs begun) p × PiecesStand limits runs (begun ++ p ∷ []) ps
+abbrev pub PiecesAreConsistent : LimitValues → List Run → (begun ps : List Piece) → Type 0
+PiecesAreConsistent limits runs begun [] = ⊤
+PiecesAreConsistent limits runs begun (p ∷ ps) =
+    IsConsistentAt (spot_after limits runs begun) p × PiecesAreConsistent limits runs (begun ++ p ∷ []) ps
 
--- each piece of these runs stands after those before it, after the runs before them
-abbrev pub RunsStand : LimitValues → (before runs : List Run) → Type 0
-RunsStand limits before [] = ⊤
-RunsStand limits before (r ∷ runs) =
-    PiecesStand limits before [] (pieces r) × RunsStand limits (before ++ r ∷ []) runs
+-- each piece of these runs may follow those before it, after the runs before them
+abbrev pub RunsAreConsistent : LimitValues → (before runs : List Run) → Type 0
+RunsAreConsistent limits before [] = ⊤
+RunsAreConsistent limits before (r ∷ runs) =
+    PiecesAreConsistent limits before [] (pieces r) × RunsAreConsistent limits (before ++ r ∷ []) runs
 
 -- NDEF 1.0, messages and chunked payloads: whole runs and the pieces of an open one, each of which
--- stands after those before it
+-- may follow those before it
 pub record AreBefore (limits : LimitValues) (runs : List Run) (begun : List Piece) : Type 0 where
   -- CF is clear in the last piece of a run, and set in the others
   pub whole : AllByRecursion (λ r. Follow r.initial.chunked r.later) runs
   pub going_on : AllByRecursion (λ p. p.chunked ≡ true) begun
-  pub runs_stand : RunsStand limits [] runs
-  pub begun_stand : PiecesStand limits runs [] begun
+  pub runs_are_consistent : RunsAreConsistent limits [] runs
+  pub begun_are_consistent : PiecesAreConsistent limits runs [] begun
 
 -- ME is clear in these pieces
 abbrev pub NoneLast : List Piece → Type 0

@@ -32,7 +32,7 @@ tnf_of n =
     else (if n == 6 then Unchanged else Unknown)))))
 
 -- NDEF 1.0, TNF: the numbers that are read; a strict reader refuses the reserved 7, though
--- the standard says that readers should treat it as Unknown
+-- by the standard readers should treat it as Unknown
 abbrev pub IsRead : Profile → ℕ → Type 0
 IsRead Strict n = n < 7
 IsRead Standard n = n < 8
@@ -47,7 +47,7 @@ HasShape _ kind id payload = 0 < kind
 
 -- ---- heads
 
--- NDEF 1.0, record layout: what the octets before TYPE say
+-- NDEF 1.0, record layout: the fields in the octets before TYPE
 pub record HeadFields : Type 0 where
   pub first : Bool
   pub last : Bool
@@ -168,7 +168,7 @@ abbrev pub Follow : Bool → List Piece → Type 0
 Follow chunked [] = chunked ≡ false
 Follow chunked (p ∷ ps) = (chunked ≡ true) × IsLater p × Follow p.chunked ps
 
--- NDEF 1.0, chunked payloads: an initial piece, and what follows it
+-- NDEF 1.0, chunked payloads: an initial piece, and the rest after it
 pub record IsRun (profile : Profile) (r : Run) : Type 0 where
   pub initial : IsInitial profile r.initial
   pub follow : Follow r.initial.chunked r.later

@@ -1,4 +1,4 @@
--- Where bytes are refused, and why.
+-- The place and the reason of a refusal.
 use Rattle.std.specs.Prelude.{◌<◌, ◌≤◌, ◌+◌, ℕ, List, length, take, ◌≡◌, Option, unwrap_or, slice_index}
 use Rattle.ndef_format.specs.Limits.{LimitValues}
 use Rattle.ndef_format.specs.Payloads.{Sets}

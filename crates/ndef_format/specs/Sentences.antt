@@ -1,4 +1,4 @@
--- What each reason for a refusal means, in a sentence.
+-- The meaning of each reason for a refusal, in a sentence.
 use Rattle.std.specs.Prelude.{ℕ, List, codes}
 use Rattle.ndef_format.specs.declared.reason.Reason.{Reason}
 use Rattle.ndef_format.specs.declared.reason.Reason.TheVariants as reasons
@@ -39,5 +39,5 @@ reason_sentence reasons.Version = codes "The handover has another major version 
 reason_sentence reasons.CollisionMissing =
     codes "A handover request has to begin with a collision resolution record."
 reason_sentence reasons.DoesNotFit =
-    codes "Nothing that may stand here fits the lengths that were given before."
+    codes "Nothing that could follow this byte fits the lengths given so far."
 reason_sentence reasons.EndOfInput = codes "The input ends within a message."

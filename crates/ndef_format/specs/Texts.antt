@@ -46,7 +46,7 @@ IsUtf16 s = IsSpelled (unmarked s).0 (unmarked s).1
 abbrev pub IsReservedSet : ℕ → Type 0
 IsReservedSet status = 64 ≤ status % 128
 
--- RTD Text 1.0, status octet: bit 7 says UTF-16
+-- RTD Text 1.0, status octet: bit 7 is set for UTF-16
 abbrev pub is_wide : ℕ → Bool
 is_wide status = nat_le 128 status
 

@@ -4,7 +4,7 @@ use Rattle.ndef_format.specs.declared.profile.Profile.{Profile}
 use Rattle.ndef_format.specs.declared.profile.Profile.TheVariants.{Strict, Standard}
 
 -- RTD URI 1.0, URI identifier codes: those above 23 are reserved; a strict reader refuses them,
--- though the standard says that readers treat them as 00
+-- though by the standard readers treat them as 00
 abbrev pub IsReserved : Profile → ℕ → Type 0
 IsReserved Strict code = 0x23 < code
 IsReserved Standard code = ⊥

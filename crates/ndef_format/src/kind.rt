@@ -1,4 +1,4 @@
-//! Which kind of payload the type of a record names.
+//! The kind of payload that the type of a record names.
 ghost use Rattle.std.specs.Prelude.{◌≡◌, ◌≤◌, [], ◌∷◌, length};
 ghost use Rattle.ndef_format.specs.Kinds.{kind_name, kind_of, named, names, outer_kind};
 
@@ -23,9 +23,9 @@ pub enum Kind {
     Carrier,
     /// `act`, the recommended action of a smart poster (RTD Smart Poster 1.0).
     Action,
-    /// `s`, the size of what a smart poster refers to (RTD Smart Poster 1.0).
+    /// `s`, the size of the object to which a smart poster refers (RTD Smart Poster 1.0).
     Size,
-    /// `t`, the media type of what a smart poster refers to (RTD Smart Poster 1.0).
+    /// `t`, the media type of the object to which a smart poster refers (RTD Smart Poster 1.0).
     MediaType,
     /// `ac`, an alternative carrier of a handover (Connection Handover 1.2).
     Alternative,

@@ -1,14 +1,14 @@
-//! The format of NDEF messages (NFC Forum, NDEF 1.0): the types that describe bytes, and in `specs/` what messages,
-//! payloads and refusals are.
+//! The format of NDEF messages (NFC Forum, NDEF 1.0): the types that describe bytes, and in `specs/` the definitions of
+//! messages, payloads and refusals.
 //!
-//! Where to look:
+//! The files:
 //!
 //! - `specs/Lib.antt`: the definitions, in the order in which they can be read.
 //! - `tnf.rt`, `kind.rt`, `table.rt`: type name formats, kinds of payloads, nested messages.
 //! - `header.rt`: the bits of the header octet of a piece.
-//! - `profile.rt`: how a reader takes reserved values. `spot.rt`: where a piece stands.
-//! - `reason.rt`, `refusal.rt`: why and where bytes are refused. `sentence.rt`, `specs/Sentences.antt`: what each
-//!   reason means.
+//! - `profile.rt`: the two ways to read reserved values. `spot.rt`: the position of a piece.
+//! - `reason.rt`, `refusal.rt`: the reason and the place of a refusal. `sentence.rt`, `specs/Sentences.antt`: the
+//!   meaning of each reason.
 #![tactic(auto)]
 
 pub mod header;

@@ -1,8 +1,8 @@
-//! What a reader makes of reserved values.
+//! The two ways to read reserved values.
 ghost use Rattle.std.specs.Prelude.{◌≡◌};
 ghost use Rattle.ndef_format.specs.declared.profile.Profile.TheVariants.{Strict};
 
-/// How a reader takes the type name format 7 and the URI codes above 23 (hexadecimal), which NDEF 1.0
+/// The way in which a reader takes the type name format 7 and the URI codes above 23 (hexadecimal), which NDEF 1.0
 /// and RTD URI 1.0 reserve. Other reserved values are the same in both: bit 6 of a text's status octet
 /// is refused; actions, error reasons and carrier formats are accepted.
 #[derive(Clone, Copy, Debug, PartialEq, Eq, Hash)]

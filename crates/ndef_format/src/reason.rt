@@ -1,11 +1,11 @@
-//! Why bytes are refused.
+//! The reason why bytes are refused.
 ghost use Rattle.std.specs.Prelude.{◌≡◌, ◌≤◌, length, Some};
 ghost use Rattle.ndef_format.specs.Reasons.{reason_number, rank_of, reason_name};
 ghost use Rattle.ndef_format.specs.Shown.{reason_text};
 
 use std::fmt;
 
-/// Why the byte at a place can't stand there, or why the input can't end there.
+/// The reason why the byte at a place isn't allowed there, or why the input can't end there.
 ///
 /// Of the reasons that hold of a byte the one with the lowest rank is given. `ReservedTnf` to
 /// `PayloadTooLarge` are of heads: broken rules of NDEF 1.0 or of the limits. The others but the last two
@@ -25,7 +25,7 @@ pub enum Reason {
     ChangedInside = 5,
     /// IL is set where a run is open.
     IdInside = 6,
-    /// The last piece of a message, with ME, says by CF that its run goes on.
+    /// The last piece of a message, with ME, has CF set: its run would go on.
     ChunkAtEnd = 7,
     /// CF is set in the first piece of an empty record.
     ChunkOfEmpty = 8,

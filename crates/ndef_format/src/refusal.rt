@@ -1,4 +1,4 @@
-//! Where bytes are refused, and why.
+//! The place and the reason of a refusal.
 ghost use Rattle.std.specs.Prelude.{Some};
 ghost use Rattle.ndef_format.specs.Shown.{refusal_text};
 
@@ -6,12 +6,12 @@ use crate::Reason;
 use std::error::Error;
 use std::fmt;
 
-/// The first byte that can't stand where it stands, or the end of input that came too early.
+/// The first byte that isn't allowed at its place, or the end of input that came too early.
 #[derive(Clone, Copy, Debug, PartialEq, Eq, Hash)]
 pub struct Refusal {
     /// The place, in bytes from 0 at the start of what is read: of the message, or of the payload.
     pub at: u64,
-    /// Why that byte is refused.
+    /// The reason why that byte is refused.
     pub reason: Reason,
 }
 

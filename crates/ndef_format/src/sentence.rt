@@ -1,11 +1,11 @@
-//! What each reason for a refusal means.
+//! The meaning of each reason for a refusal.
 ghost use Rattle.std.specs.Prelude.{◌≡◌, ◌≤◌, length};
 ghost use Rattle.ndef_format.specs.Sentences.{reason_sentence};
 
 use crate::Reason;
 
 impl Reason {
-    /// What the reason means, in a sentence of English: 22 to 70 bytes of ASCII, the full stop included
+    /// The meaning of the reason, in a sentence of English: 22 to 70 bytes of ASCII, the full stop included
     /// (NDEF 1.0, RTD Text 1.0, RTD URI 1.0, RTD Smart Poster 1.0 and Connection Handover 1.2).
     pub fn sentence(self) -> &'static [u8]
         ensures value { result.now ≡ reason_sentence self }
@@ -42,7 +42,7 @@ impl Reason {
             Reason::CollisionMissing =>
                 b"A handover request has to begin with a collision resolution record.",
             Reason::DoesNotFit =>
-                b"Nothing that may stand here fits the lengths that were given before.",
+                b"Nothing that could follow this byte fits the lengths given so far.",
             Reason::EndOfInput => b"The input ends within a message.",
         }
     }

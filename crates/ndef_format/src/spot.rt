@@ -1,11 +1,11 @@
-//! Where a piece stands.
+//! The position of a piece in a message.
 use crate::Profile;
 
-/// What is known before a piece of a message (NDEF 1.0): it follows from the pieces before it and the
+/// The state before a piece of a message (NDEF 1.0): it follows from the pieces before it and the
 /// limits. No piece is both the first of its message and inside a run.
 #[derive(Clone, Copy, Debug, PartialEq, Eq, Hash)]
 pub struct Spot {
-    /// How reserved values are read.
+    /// The way in which reserved values are read.
     pub profile: Profile,
     /// The piece is the first of its message.
     pub first: bool,

@@ -1,4 +1,4 @@
-//! Which nested message.
+//! The types of nested messages.
 ghost use Rattle.std.specs.Prelude.{◌≡◌};
 ghost use Rattle.ndef_format.specs.Nested.{checked, is_checked, kind_in, table_in, table_of};
 

@@ -6,7 +6,7 @@ ghost use Rattle.ndef_format.specs.Records.{code};
 use std::fmt;
 use thiserror::Error;
 
-/// How the type of a record is to be read (NDEF 1.0, TNF).
+/// The type name format: the way in which the type of a record is to be read (NDEF 1.0, TNF).
 #[derive(Clone, Copy, Debug, PartialEq, Eq, Hash)]
 pub enum Tnf {
     /// A record with no type, id or payload.

@@ -115,18 +115,18 @@ module _ (name content : List ℕ) (no_name : IsNoName name) (named : AreOctets 
   alone : (p : Piece) (qs : List Piece) → p.last ≡ true → qs ≡ [] → EndsOnce (p ∷ qs)
   alone p qs e none = subst (λ x. EndsOnce (p ∷ x)) (sym none) e
 
-  behind : (p : Piece) (qs : List Piece) → p.last ≡ false → EndsOnce qs → EndsOnce (p ∷ qs)
-  behind p [] e h = absurd h
-  behind p (q ∷ qs) e h = (e, h)
+  following : (p : Piece) (qs : List Piece) → p.last ≡ false → EndsOnce qs → EndsOnce (p ∷ qs)
+  following p [] e h = absurd h
+  following p (q ∷ qs) e h = (e, h)
 
-  ends_behind : (p : Piece) (last : Bool) (n : ℕ) (qs : List Piece) → p.last ≡ ends last n → (last ≡ true → qs ≡ []) → (last ≡ false → EndsOnce qs) → EndsOnce (p ∷ (later last n ++ qs))
-  ends_behind p true zero qs e none h = alone p qs e (none refl)
-  ends_behind p false zero qs e none h = behind p qs e (h refl)
-  ends_behind p last (suc n) qs e none h = (e, ends_behind (empty_piece last n) last n qs refl none h)
+  ends_after : (p : Piece) (last : Bool) (n : ℕ) (qs : List Piece) → p.last ≡ ends last n → (last ≡ true → qs ≡ []) → (last ≡ false → EndsOnce qs) → EndsOnce (p ∷ (later last n ++ qs))
+  ends_after p true zero qs e none h = alone p qs e (none refl)
+  ends_after p false zero qs e none h = following p qs e (h refl)
+  ends_after p last (suc n) qs e none h = (e, ends_after (empty_piece last n) last n qs refl none h)
 
   ends_all : (first : Bool) (k n : ℕ) → EndsOnce (all_pieces (runs first (suc k) n))
-  ends_all first zero n = ends_behind (initial first true n) true n [] refl (λ e. refl) (λ e. absurd (clash e))
-  ends_all first (suc k) n = ends_behind (initial first false n) false n (all_pieces (runs false (suc k) n)) refl (λ e. absurd (clash (sym e))) (λ e. ends_all false k n)
+  ends_all first zero n = ends_after (initial first true n) true n [] refl (λ e. refl) (λ e. absurd (clash e))
+  ends_all first (suc k) n = ends_after (initial first false n) false n (all_pieces (runs false (suc k) n)) refl (λ e. absurd (clash (sym e))) (λ e. ends_all false k n)
 
   -- ---- their spelling
 

@@ -3,10 +3,9 @@ use Rattle.std.proofs.Common.{◌≡◌, ℕ, zero, suc, ◌+◌, ◌*◌, ◌/�
 use Rattle.std.proofs.lemmas.Bool.{lt-leb}
 use Rattle.std.specs.List.{AllByRecursion}
 use Rattle.ndef_format.specs.Records.{AreOctets}
-use Rattle.ndef_value.specs.SliceLaws.{rest_from, behind_drop, octet_at, octets_drop, octets_behind, cut_one, cut_two}
-use Rattle.ndef_format.specs.Octets.{IsOctet, Octets}
+use Rattle.ndef_value.specs.SliceLaws.{rest_from, octet_at, octets_after, cut_one, cut_two}
+use Rattle.ndef_format.specs.Octets.{Octets}
 use Rattle.ndef_format.specs.Texts.{IsCodeOctet, IsTextIn, IsText, is_wide, IsSpelled, spelled}
-use Rattle.ndef_format.specs.Handovers.{IsAlternative, AreAuxiliary, AreReferences, IsCarrier}
 use Rattle.ndef_lang.specs.declared.leaf.Class.{Class}
 use Rattle.ndef_lang.specs.declared.leaf.Stage.{Stage}
 use Rattle.ndef_lang.specs.declared.leaf.Leaf.{Leaf}
@@ -22,11 +21,6 @@ pub field_from : (passes : ℕ → Type 0) (n : ℕ) (set : List ℕ → Type 0)
 field_from passes zero set s l h t = t
 field_from passes (suc n) set [] l h t = absurd (omega arith)
 field_from passes (suc n) set (x ∷ s) l h t = (h.0, field_from passes n set s (omega arith) h.1 t)
-
-pub any_from : (n : ℕ) (set : List ℕ → Type 0) (s : List ℕ) → n ≤ length s → AreOctets s → set (drop n s) → Octets IsOctet n set s
-any_from zero set s l h t = t
-any_from (suc n) set [] l h t = absurd (omega arith)
-any_from (suc n) set (x ∷ s) l h t = (h.0, any_from n set s (omega arith) h.1 t)
 
 -- a status octet, a code of length k and a text
 pub text_from : (s : List ℕ) (k : ℕ) → AreOctets s → 1 ≤ length s → get_or s 0 0 % 128 < 64 → k ≡ get_or s 0 0 % 64 → k ≤ length (rest_from 1 s)
@@ -46,36 +40,6 @@ ascii_text_from s k octets some plain is long narrow h =
     let p = ascii_parts k (rest_from 1 s) h in
     let wide : is_wide (get_or s 0 0) ≡ false = lt-leb 128 (get_or s 0 0) narrow in
     text_from s k octets some plain is long p.0 (subst (λ w. IsTextIn w (drop k (rest_from 1 s))) (sym wide) (ascii_is_utf8 _ p.1))
-
--- a format, a type after its length, and any octets
-pub carrier_from : (s : List ℕ) → AreOctets s → 2 ≤ length s → get_or s 1 0 ≤ length (rest_from 2 s) → IsCarrier s
-carrier_from s octets some long =
-    let rest = octets_behind 2 s octets in
-    subst IsCarrier (cut_two s some) (octet_at s 0 octets, (octet_at s 1 octets, any_from (get_or s 1 0) AreOctets (rest_from 2 s) long rest (octets_drop (get_or s 1 0) (rest_from 2 s) rest)))
-
--- a reference after its length k, and n more of them
-pub reference_from : (n m k : ℕ) (s : List ℕ) → m ≡ suc n → AreOctets s → 1 ≤ length s → k ≡ get_or s 0 0 → k ≤ length (rest_from 1 s) → AreReferences n (rest_from k (rest_from 1 s)) → AreReferences m s
-reference_from n m k s e octets some is long h =
-    let rest = rest_from 1 s in
-    let tail : AreReferences n (drop (get_or s 0 0) rest) = subst (λ k. AreReferences n (drop k rest)) is (subst (AreReferences n) (behind_drop k rest) h) in
-    let l : get_or s 0 0 ≤ length rest = omega arith in
-    subst (λ m. AreReferences m s) (sym e) (subst (AreReferences (suc n)) (cut_one s some) (octet_at s 0 octets, any_from (get_or s 0 0) (AreReferences n) rest l (octets_behind 1 s octets) tail))
-
--- none is left
-pub no_references : (n : ℕ) (s : List ℕ) → n ≡ 0 → AreOctets s → AreReferences n s
-no_references n s e octets = subst (λ n. AreReferences n s) (sym e) octets
-
--- a power state, a reference after its length k, and auxiliary references
-pub alternative_from : (s : List ℕ) (k : ℕ) → AreOctets s → 2 ≤ length s → k ≡ get_or s 1 0 → k ≤ length (rest_from 2 s) → 1 ≤ length (rest_from k (rest_from 2 s))
-    → AreReferences (get_or (rest_from k (rest_from 2 s)) 0 0) (rest_from 1 (rest_from k (rest_from 2 s))) → IsAlternative s
-alternative_from s k octets two is long some h =
-    let rest = rest_from 2 s in
-    let octets_rest = octets_behind 2 s octets in
-    let count = octet_at (rest_from k rest) 0 (octets_behind k rest octets_rest) in
-    let auxiliary : AreAuxiliary (rest_from k rest) = subst AreAuxiliary (cut_one (rest_from k rest) some) (count, h) in
-    let tail : AreAuxiliary (drop (get_or s 1 0) rest) = subst (λ k. AreAuxiliary (drop k rest)) is (subst AreAuxiliary (behind_drop k rest) auxiliary) in
-    let l : get_or s 1 0 ≤ length rest = omega arith in
-    subst IsAlternative (cut_two s two) (octet_at s 0 octets, (octet_at s 1 octets, any_from (get_or s 1 0) AreAuxiliary rest l octets_rest tail))
 
 -- ---- units of UTF-16
 
@@ -129,7 +93,7 @@ pub pair_at : (little : Bool) (most second : ℕ) (s : List ℕ) → AreOctets s
     → IsSpelled little (rest_from 2 (rest_from 2 s)) → IsSpelled little s
 pair_at little most second s octets two four is is2 h k l m r =
     let rest = rest_from 2 s in
-    let octets_rest = octets_behind 2 s octets in
+    let octets_rest = octets_after 2 s octets in
     let tail : IsSpelled little (get_or s 0 0 ∷ get_or s 1 0 ∷ get_or rest 0 0 ∷ get_or rest 1 0 ∷ rest_from 2 rest) =
     unit_pair little _ _ _ _ (rest_from 2 rest) (octet_at s 0 octets) (octet_at s 1 octets) (octet_at rest 0 octets_rest) (octet_at rest 1 octets_rest) (omega arith) (omega arith) (omega arith) (omega arith) r in
     subst (IsSpelled little) (cut_two s two) (subst (λ t. IsSpelled little (get_or s 0 0 ∷ get_or s 1 0 ∷ t)) (cut_two rest four) tail)

@@ -1,4 +1,4 @@
--- What is accepted is accepted in the canonical spelling too.
+-- A message that is accepted is accepted in the canonical spelling too.
 use Rattle.std.proofs.Common.{◌≡◌, ◌≢◌, ℕ, ◌<◌, ◌≤◌, ◌^◌, Bool, true, false, sym, subst, arith, List, [], ◌∷◌, length, map, append-nil}
 use Rattle.std.specs.List.{AllByRecursion}
 use Rattle.ndef_format.specs.Accepted.{Accepted, IsMember}

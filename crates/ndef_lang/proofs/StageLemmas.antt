@@ -7,9 +7,8 @@ use Rattle.ndef_format.specs.declared.profile.Profile.{Profile}
 use Rattle.ndef_format.specs.declared.reason.Reason.{Reason}
 use Rattle.ndef_format.specs.declared.reason.Reason.TheVariants as reasons
 use Rattle.ndef_format.specs.Reasons.{IsLowest, OneReason, rank_of}
-use Rattle.ndef_format.specs.Texts.{IsCodeOctet, IsTextIn}
 use Rattle.std.specs.List.{AllByRecursion}
-use Rattle.ndef_format.specs.Octets.{AreOctetsOf, IsOctet, Octets}
+use Rattle.ndef_format.specs.Octets.{Octets}
 use Rattle.ndef_format.specs.Records.{AreOctets}
 use Rattle.ndef_format.specs.PayloadReasons.{Passes, TextFieldReason, code_octet, utf8_octet, utf16_octet}
 use Rattle.ndef_lang.specs.declared.leaf.Class.{Class}
@@ -21,15 +20,14 @@ use Rattle.ndef_lang.specs.declared.leaf.Leaf.TheVariants.{Utf8}
 use Rattle.ndef_lang.specs.declared.utf8.Utf8Lang.{Utf8Lang}
 use Rattle.ndef_lang.specs.declared.utf8.Utf8Lang.TheVariants.{Whole, OneMore, TwoMore, ThreeMore, AfterE0, AfterEd, AfterF0, AfterF4, Refused}
 use Rattle.ndef_lang.specs.declared.utf16.Utf16State.{Utf16State}
-use Rattle.ndef_lang.specs.Language.{Behind, Continues, PassesBetween, Reaches, StepsAll, StepsFront}
+use Rattle.ndef_lang.specs.Language.{After, Continues, PassesBetween, Reaches, StepsAll, StepsFront}
 use Rattle.ndef_lang.specs.LengthLaws.{some_octets}
 use Rattle.ndef_lang.specs.StepLaws.{octets_follow}
-use Rattle.ndef_lang.specs.Machine.Utf8.{CompletesUtf8, utf8_told}
+use Rattle.ndef_lang.specs.Machine.Utf8.{CompletesUtf8, utf8_reason}
 use Rattle.ndef_lang.specs.Machine.Utf8Laws.{are_utf8_lengths}
-use Rattle.ndef_lang.specs.Machine.Utf16.{CompletesUtf16, utf16_told, utf16_refused, utf16_missing}
+use Rattle.ndef_lang.specs.Machine.Utf16.{CompletesUtf16, utf16_reason, utf16_refused, utf16_missing}
 use Rattle.ndef_lang.specs.Machine.Utf16Laws.{alive_lengths, utf16_never}
-use Rattle.ndef_lang.specs.Machine.Leaf.{CompletesStage, CompletesLeaf, BeginNothing, StageReason, FieldReason, Holds, MayLead, ReachedBy, text_stage}
-use Rattle.ndef_lang.proofs.Members.{nothing_left}
+use Rattle.ndef_lang.specs.Machine.Leaf.{CompletesLeaf, BeginNothing, StageReason, FieldReason, Holds, MayLead, ReachedBy, text_stage}
 use Rattle.ndef_lang.proofs.Reasons.{lowest_broken, lowest_fits}
 
 -- ---- a text
@@ -55,7 +53,7 @@ text_dead why old new byte l f none = lowest_broken why (BeginNothing old [] byt
 utf8_passes : (state : Utf8Lang) (n : ℕ) → ((r : List ℕ) × (CompletesUtf8 state r × (length r ≡ n))) → Passes (CompletesUtf8 state)
 utf8_passes state n t = (t.0, t.1.0)
 
-pub utf8_lowest : (old : List ℕ → Type 0) (state : Utf8Lang) (b : ℕ) → Continues old (CompletesUtf8 state) (b ∷ []) → IsLowest (OneReason reasons.Utf8 (BeginNothing old [] b)) (utf8_told state)
+pub utf8_lowest : (old : List ℕ → Type 0) (state : Utf8Lang) (b : ℕ) → Continues old (CompletesUtf8 state) (b ∷ []) → IsLowest (OneReason reasons.Utf8 (BeginNothing old [] b)) (utf8_reason state)
 utf8_lowest old Whole b f = text_alive reasons.Utf8 old (CompletesUtf8 Whole) b f (utf8_passes Whole 0 ((are_utf8_lengths Whole).each 0 (omega arith)))
 utf8_lowest old OneMore b f = text_alive reasons.Utf8 old (CompletesUtf8 OneMore) b f (utf8_passes OneMore 1 ((are_utf8_lengths OneMore).each 1 (omega arith)))
 utf8_lowest old TwoMore b f = text_alive reasons.Utf8 old (CompletesUtf8 TwoMore) b f (utf8_passes TwoMore 2 ((are_utf8_lengths TwoMore).each 2 (omega arith)))
@@ -66,7 +64,7 @@ utf8_lowest old AfterF0 b f = text_alive reasons.Utf8 old (CompletesUtf8 AfterF0
 utf8_lowest old AfterF4 b f = text_alive reasons.Utf8 old (CompletesUtf8 AfterF4) b f (utf8_passes AfterF4 3 ((are_utf8_lengths AfterF4).each 3 (omega arith)))
 utf8_lowest old Refused b f = text_dead reasons.Utf8 old (CompletesUtf8 Refused) b (omega arith) f (λ p. p.1)
 
-pub utf16_lowest : (old : List ℕ → Type 0) (state : Utf16State) (b : ℕ) → Continues old (CompletesUtf16 state) (b ∷ []) → IsLowest (OneReason reasons.Utf16 (BeginNothing old [] b)) (utf16_told state)
+pub utf16_lowest : (old : List ℕ → Type 0) (state : Utf16State) (b : ℕ) → Continues old (CompletesUtf16 state) (b ∷ []) → IsLowest (OneReason reasons.Utf16 (BeginNothing old [] b)) (utf16_reason state)
 utf16_lowest old state b f = by_test (utf16_refused state) refl
   where
     by_test : (refused : Bool) → utf16_refused state ≡ refused → IsLowest (OneReason reasons.Utf16 (BeginNothing old [] b)) (if refused then reasons.Utf16 else reasons.DoesNotFit)
@@ -74,10 +72,6 @@ utf16_lowest old state b f = by_test (utf16_refused state) refl
     by_test false d = let t = (alive_lengths state d).each (utf16_missing state) (0, omega arith) in text_alive reasons.Utf16 old (CompletesUtf16 state) b f (t.0, t.1.0)
 
 -- ---- a language code
-
-pub coded_text : (wide : Bool) (n : ℕ) (r : List ℕ) → Octets IsCodeOctet n (CompletesStage (text_stage wide)) r ↔ Octets IsCodeOctet n (IsTextIn wide) r
-coded_text true n r = (λ h. h, λ h. h)
-coded_text false n r = (λ h. h, λ h. h)
 
 -- the reasons of a language code and of the text after it
 pub code_goes : (n : ℕ) (wide : Bool) (u : List ℕ) (b : ℕ) (reason : Reason)
@@ -100,14 +94,6 @@ pub plain_goes : (n : ℕ) (next : Stage) → ((u : List ℕ) (b : ℕ) (reason 
 plain_goes zero next f u b reason = f u b reason
 plain_goes (suc n) next f [] b reason = (λ h. h, λ h. h)
 plain_goes (suc n) next f (c ∷ u) b reason = plain_goes n next f u b reason
-
--- n octets and nothing more
-pub octets_to_end : (n : ℕ) (r : List ℕ) → Octets IsOctet n (CompletesStage stages.End) r ↔ AreOctetsOf n r
-octets_to_end zero r = (λ h. (subst AreOctets (sym h) tt, ap length h), λ h. nothing_left r h.1)
-octets_to_end (suc n) [] = (λ h. absurd h, λ h. absurd (omega (arith, h.1)))
-octets_to_end (suc n) (b ∷ r) =
-    let f = octets_to_end n r in
-    (λ h. (let t = f.0 h.1 in ((h.0, t.0), omega (arith, t.1))), λ h. (h.0.0, f.1 (h.0.1, omega (arith, h.1))))
 
 -- any octet but that of a text or of what it has conditions for
 pub may_lead : (stage : Stage) (b : ℕ) → stage ≢ stages.End → stage ≢ stages.Utf8 → stage ≢ stages.Utf16 → stage ≢ stages.Status → ((profile : Profile) → stage ≢ stages.UriCode profile) → MayLead stage b
@@ -132,32 +118,32 @@ staged_reached old new t f g holds s h p u c reason =
     let w = g p u c reason in
     rw append_assoc (λ x. w.0 (k.0 x), λ x. k.1 (w.1 x))
 
-same_lowest : (holds other : Reason → Type 0) (told : Reason) → ((reason : Reason) → holds reason ↔ other reason) → IsLowest other told → IsLowest holds told
-same_lowest holds other told f l = record { it = (f told).1 l.it; first = λ reason h. l.first reason ((f reason).0 h) }
+same_lowest : (holds other : Reason → Type 0) (refusal_reason : Reason) → ((reason : Reason) → holds reason ↔ other reason) → IsLowest other refusal_reason → IsLowest holds refusal_reason
+same_lowest holds other refusal_reason f l = record { it = (f refusal_reason).1 l.it; first = λ reason h. l.first reason ((f reason).0 h) }
 
 -- the reason of an octet after octets of the payload and octets of the state
-pub staged_reason_at : (state : Leaf) (holds : List ℕ → ℕ → Reason → Type 0) (s t : List ℕ) (b : ℕ) (told : Reason)
-    → ReachedBy state holds s → Passes (CompletesLeaf state) → IsLowest (Holds state t b) told → IsLowest (holds (s ++ t) b) told
-staged_reason_at state holds s t b told h p l = same_lowest (holds (s ++ t) b) (Holds state t b) told (h p t b) l
+pub staged_reason_at : (state : Leaf) (holds : List ℕ → ℕ → Reason → Type 0) (s t : List ℕ) (b : ℕ) (refusal_reason : Reason)
+    → ReachedBy state holds s → Passes (CompletesLeaf state) → IsLowest (Holds state t b) refusal_reason → IsLowest (holds (s ++ t) b) refusal_reason
+staged_reason_at state holds s t b refusal_reason h p l = same_lowest (holds (s ++ t) b) (Holds state t b) refusal_reason (h p t b) l
 
-pub staged_reason : (state : Leaf) (b : ℕ) (told : Reason) → (Passes (CompletesLeaf state) → IsLowest (Holds state [] b) told) → (holds : List ℕ → ℕ → Reason → Type 0) (s : List ℕ) → ReachedBy state holds s
-    → Passes (CompletesLeaf state) → IsLowest (holds s b) told
-staged_reason state b told f holds s h p = let l = staged_reason_at state holds s [] b told h p (f p) in rw append-nil at l
+pub staged_reason : (state : Leaf) (b : ℕ) (refusal_reason : Reason) → (Passes (CompletesLeaf state) → IsLowest (Holds state [] b) refusal_reason) → (holds : List ℕ → ℕ → Reason → Type 0) (s : List ℕ) → ReachedBy state holds s
+    → Passes (CompletesLeaf state) → IsLowest (holds s b) refusal_reason
+staged_reason state b refusal_reason f holds s h p = let l = staged_reason_at state holds s [] b refusal_reason h p (f p) in rw append-nil at l
 
 -- the reason of the octet after those that were stepped
-pub taken_reason : (old new : Leaf) (bytes : List ℕ) (lo hi count : ℕ) (b : ℕ) (told : Reason) → StepsAll (CompletesLeaf old) (CompletesLeaf new) bytes lo hi count → IsLowest (Holds old (take count bytes) b) told
-    → (holds : List ℕ → ℕ → Reason → Type 0) (s : List ℕ) → ReachedBy old holds s → IsLowest (holds (s ++ take count bytes) b) told
-taken_reason old new bytes lo hi count b told t l holds s h = let p = t.fits in staged_reason_at old holds s (take count bytes) b told h (take count bytes ++ p.rest, p.passed) l
+pub taken_reason : (old new : Leaf) (bytes : List ℕ) (lo hi count : ℕ) (b : ℕ) (refusal_reason : Reason) → StepsAll (CompletesLeaf old) (CompletesLeaf new) bytes lo hi count → IsLowest (Holds old (take count bytes) b) refusal_reason
+    → (holds : List ℕ → ℕ → Reason → Type 0) (s : List ℕ) → ReachedBy old holds s → IsLowest (holds (s ++ take count bytes) b) refusal_reason
+taken_reason old new bytes lo hi count b refusal_reason t l holds s h = let p = t.fits in staged_reason_at old holds s (take count bytes) b refusal_reason h (take count bytes ++ p.rest, p.passed) l
 
 -- the reason of the octet of a UTF-8 text after those that were stepped
 pub utf8_staged_reason : (old new : Utf8Lang) (bytes : List ℕ) (lo hi count : ℕ) → StepsAll (CompletesUtf8 old) (CompletesUtf8 new) bytes lo hi count → count < length bytes → (holds : List ℕ → ℕ → Reason → Type 0) (s : List ℕ)
-    → ReachedBy (Utf8 old) holds s → IsLowest (holds (s ++ take count bytes) (get_or bytes count 0)) (utf8_told new)
+    → ReachedBy (Utf8 old) holds s → IsLowest (holds (s ++ take count bytes) (get_or bytes count 0)) (utf8_reason new)
 utf8_staged_reason old new bytes lo hi count t l holds s h =
     let b = get_or bytes count 0 in
     let front = take count bytes in
     let p = t.fits in
-    same_lowest (holds (s ++ front) b) (OneReason reasons.Utf8 (BeginNothing (CompletesUtf8 old) front b)) (utf8_told new) (h (front ++ p.rest, p.passed) front b)
-    (utf8_lowest (Behind (CompletesUtf8 old) front) new b (λ r. at_next r (t.stepped r)))
+    same_lowest (holds (s ++ front) b) (OneReason reasons.Utf8 (BeginNothing (CompletesUtf8 old) front b)) (utf8_reason new) (h (front ++ p.rest, p.passed) front b)
+    (utf8_lowest (After (CompletesUtf8 old) front) new b (λ r. at_next r (t.stepped r)))
   where
     at_next : (r : List ℕ) → (CompletesUtf8 new r ↔ CompletesUtf8 old (take (count + 1) bytes ++ r)) → CompletesUtf8 new r ↔ CompletesUtf8 old (take count bytes ++ get_or bytes count 0 ∷ r)
     at_next r f = subst (λ x. CompletesUtf8 new r ↔ CompletesUtf8 old x) (ap (λ x. x ++ r) (take_more bytes count 0 l) ∙ append_assoc (take count bytes) (get_or bytes count 0 ∷ []) r) f
@@ -188,11 +174,11 @@ pub field_goes : (class : Class) (t : List ℕ) (left : ℕ) (next : Stage) (u :
 field_goes class [] left next u b reason = let e : 0 + left ≡ left = omega arith in rw e (λ h. h, λ h. h)
 field_goes class (c ∷ t) left next u b reason = let e : suc (length t) + left ≡ suc (length t + left) = omega arith in rw e (field_goes class t left next u b reason)
 
-field_behind : (passes : ℕ → Type 0) (n m left : ℕ) (next : List ℕ → Type 0) (r : List ℕ) → m ≡ n + left → Octets passes m next r → (rest : List ℕ) × (Octets passes left next rest × (length r ≡ n + length rest))
-field_behind passes zero m left next r e h = (r, (subst (λ k. Octets passes k next r) (let q : m ≡ left = omega arith in q) h, omega arith))
-field_behind passes (suc n) zero left next r e h = absurd (omega arith)
-field_behind passes (suc n) (suc m) left next [] e h = absurd h
-field_behind passes (suc n) (suc m) left next (b ∷ r) e h = let t = field_behind passes n m left next r (omega arith) h.1 in (t.0, (t.1.0, omega (arith, t.1.1)))
+field_past : (passes : ℕ → Type 0) (n m left : ℕ) (next : List ℕ → Type 0) (r : List ℕ) → m ≡ n + left → Octets passes m next r → (rest : List ℕ) × (Octets passes left next rest × (length r ≡ n + length rest))
+field_past passes zero m left next r e h = (r, (subst (λ k. Octets passes k next r) (let q : m ≡ left = omega arith in q) h, omega arith))
+field_past passes (suc n) zero left next r e h = absurd (omega arith)
+field_past passes (suc n) (suc m) left next [] e h = absurd h
+field_past passes (suc n) (suc m) left next (b ∷ r) e h = let t = field_past passes n m left next r (omega arith) h.1 in (t.0, (t.1.0, omega (arith, t.1.1)))
 
 pub field_steps : (passes : ℕ → Type 0) (bytes : List ℕ) (n left : ℕ) (next : List ℕ → Type 0) → AllByRecursion passes (take n bytes) → n ≤ length bytes → n ≤ left → StepsFront (Octets passes left next) (Octets passes (left - n) next) bytes n
 field_steps passes bytes n left next a l m = record { within = l; stepped = stepped; fits = fits }
@@ -204,7 +190,7 @@ field_steps passes bytes n left next a l m = record { within = l; stepped = step
     fits lo hi few p =
         let least = p.least in
         let most = p.most in
-        let t = field_behind passes n left (left - n) next p.rest (omega arith) p.passed in
+        let t = field_past passes n left (left - n) next p.rest (omega arith) p.passed in
         record { rest = t.0; passed = t.1.0; least = omega (arith, t.1.1); most = omega (arith, t.1.1) }
 
 pub field_goes_on : (class : Class) (bytes : List ℕ) (n left : ℕ) (next : Stage) → n ≤ length bytes → n ≤ left → (u : List ℕ) (b : ℕ) (reason : Reason)

@@ -10,27 +10,27 @@ use Rattle.ndef_lang.specs.declared.utf8.Utf8Lang.TheVariants.{Whole}
 use Rattle.ndef_lang.specs.Language.{Continues, PassesBetween, StepsAll}
 use Rattle.ndef_format.specs.Reasons.{IsLowest}
 use Rattle.ndef_lang.specs.StepLaws.{follows_none, follows_more, take_parts, steps_done}
-use Rattle.ndef_lang.specs.Machine.Utf8.{CompletesUtf8, Utf8Reached, utf8_told}
+use Rattle.ndef_lang.specs.Machine.Utf8.{CompletesUtf8, Utf8Reached, utf8_reason}
 use Rattle.ndef_format.specs.PayloadReasons.{Utf8Reason}
 use Rattle.ndef_lang.specs.Machine.Utf8Laws.{are_utf8_lengths}
-use Rattle.ndef_lang.proofs.Utf8Lemmas.{utf8_reason}
+use Rattle.ndef_lang.proofs.Utf8Lemmas.{utf8_reason_is}
 
 -- what follows whole characters in a text is a text
-behind_chars : (cs r : List ℕ) → scalars cs ≡ true → IsUtf8 (encodes cs ++ r) → IsUtf8 r
-behind_chars [] r ok u = u
-behind_chars (c ∷ cs) r ok u =
+after_chars : (cs r : List ℕ) → scalars cs ≡ true → IsUtf8 (encodes cs ++ r) → IsUtf8 r
+after_chars [] r ok u = u
+after_chars (c ∷ cs) r ok u =
     let p = and_parts (scalar c) (scalars cs) ok in
-    behind_chars cs r p.1 (IsUtf8-past_char (encodes (c ∷ cs) ++ r) (encodes cs ++ r) c u (append_assoc (encode c) (encodes cs) r))
+    after_chars cs r p.1 (IsUtf8-past_char (encodes (c ∷ cs) ++ r) (encodes cs ++ r) c u (append_assoc (encode c) (encodes cs) r))
 
 pub follows_text : (s : List ℕ) → IsUtf8 s → Continues IsUtf8 IsUtf8 s
 follows_text s t r = (
   λ u. IsUtf8-append s r t u,
-  λ u. behind_chars t.0 r t.1.0 (subst (λ x. IsUtf8 (x ++ r)) (sym t.1.1) u),
+  λ u. after_chars t.0 r t.1.0 (subst (λ x. IsUtf8 (x ++ r)) (sym t.1.1) u),
 )
 
 -- a text at the front, and another after it
 pub text_parts : (bytes : List ℕ) (at n : ℕ) → IsUtf8 (take at bytes) → IsUtf8 (take n (drop at bytes)) → IsUtf8 (take (at + n) bytes)
-text_parts bytes at n front behind = subst IsUtf8 (sym (take_parts bytes at n)) (IsUtf8-append (take at bytes) (take n (drop at bytes)) front behind)
+text_parts bytes at n front following = subst IsUtf8 (sym (take_parts bytes at n)) (IsUtf8-append (take at bytes) (take n (drop at bytes)) front following)
 
 -- the least length may grow less, and the greatest too
 text_between : (lo hi n : ℕ) → n ≤ lo → PassesBetween IsUtf8 lo hi → PassesBetween IsUtf8 (lo - n) (hi - n)
@@ -68,8 +68,8 @@ both_stepped old mid bytes lo hi begun count front l m s n w f =
 
 -- the reason for the octet after those that were stepped
 pub utf8_all_reason : (old new : Utf8Lang) (bytes : List ℕ) (lo hi count : ℕ) → StepsAll (CompletesUtf8 old) (CompletesUtf8 new) bytes lo hi count → count < length bytes → (s : List ℕ) → Utf8Reached old s
-    → IsLowest (Utf8Reason (s ++ take count bytes) (get_or bytes count 0)) (utf8_told new)
+    → IsLowest (Utf8Reason (s ++ take count bytes) (get_or bytes count 0)) (utf8_reason new)
 utf8_all_reason old new bytes lo hi count t l s h =
     let e : s ++ take (count + 1) bytes ≡ (s ++ take count bytes) ++ get_or bytes count 0 ∷ [] = ap (λ x. s ++ x) (take_more bytes count 0 l) ∙ sym (append_assoc s (take count bytes) (get_or bytes count 0 ∷ [])) in
-    utf8_reason new (get_or bytes count 0) (s ++ take count bytes)
+    utf8_reason_is new (get_or bytes count 0) (s ++ take count bytes)
     (subst (Continues IsUtf8 (CompletesUtf8 new)) e (follows_more IsUtf8 (CompletesUtf8 old) (CompletesUtf8 new) s (take (count + 1) bytes) h t.stepped))

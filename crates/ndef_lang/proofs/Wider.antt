@@ -1,4 +1,4 @@
--- What is accepted within some limits is accepted within wider ones.
+-- A message that is accepted within some limits is accepted within wider ones.
 use Rattle.std.proofs.Common.{arith}
 use Rattle.ndef_format.specs.Accepted.{IsMember}
 use Rattle.ndef_format.specs.Payloads.{Sets}

@@ -1,4 +1,4 @@
--- What the laws of a payload language say.
+-- The laws of a payload language.
 use Rattle.std.specs.Prelude.{ℕ, ◌+◌, ◌-◌, ◌<◌, ◌≤◌, List, ◌++◌, length, take, slice_index, ◌↔◌}
 use Rattle.ndef_format.specs.Records.{AreOctets}
 use Rattle.ndef_format.specs.declared.profile.Profile.{Profile}
@@ -24,8 +24,8 @@ abbrev pub Reaches : (old new : List ℕ → Type 0) → List ℕ → Type 0
 Reaches old new octets = (s : List ℕ) → old s → new (s ++ octets)
 
 -- what passes after these octets
-abbrev pub Behind : (List ℕ → Type 0) → List ℕ → List ℕ → Type 0
-Behind future octets r = future (octets ++ r)
+abbrev pub After : (List ℕ → Type 0) → List ℕ → List ℕ → Type 0
+After future octets r = future (octets ++ r)
 
 -- The first `count` of these octets were stepped, and one more where that isn't all of them. Before
 -- them some list of lo to hi octets passed; after `count` of them one of what is left still does,
@@ -33,7 +33,7 @@ Behind future octets r = future (octets ++ r)
 pub record StepsAll (old new : List ℕ → Type 0) (bytes : List ℕ) (lo hi count : ℕ) : Type 0 where
   pub within : count ≤ length bytes
   pub stepped : Continues old new (take (count + 1) bytes)
-  pub fits : PassesBetween (Behind old (take count bytes)) (lo - count) (hi - count)
+  pub fits : PassesBetween (After old (take count bytes)) (lo - count) (hi - count)
   pub refused : count < length bytes → PassesBetween new (lo - (count + 1)) (hi - (count + 1)) → ⊥
 
 -- The first `count` of these octets were stepped; where some list passed before them, one of what
@@ -44,7 +44,7 @@ pub record StepsFront (old new : List ℕ → Type 0) (bytes : List ℕ) (count 
   pub fits : (lo hi : ℕ) → count ≤ lo → PassesBetween old lo hi
       → PassesBetween new (lo - count) (hi - count)
 
--- The octets lead on, whatever the kind, the number of records and the profile.
+-- The octets lead on, for any kind, number of records and profile.
 abbrev pub ReachesEach : (old new : KindSets) → List ℕ → Type 0
 ReachesEach old new octets = (kind : Kind) (records : ℕ) (profile : Profile)
     → Reaches (old kind records profile) (new kind records profile) octets
@@ -53,12 +53,12 @@ ReachesEach old new octets = (kind : Kind) (records : ℕ) (profile : Profile)
 abbrev pub AllPass : (List ℕ → Type 0) → Type 0
 AllPass future = (r : List ℕ) → AreOctets r → future r
 
--- What was reached is reached again after any octets, whatever the kind, the number of records and
--- the profile.
+-- A state that was reached is reached again after any octets, for any kind, any number of records and
+-- any profile.
 abbrev pub AllReach : KindSets → Type 0
 AllReach reached = (octets : List ℕ) → AreOctets octets → ReachesEach reached reached octets
 
--- Whatever octets were reached, after which something could still follow: the reason is that of the
+-- For any octets that were reached, after which something could still follow: the reason is that of the
 -- octet that follows them.
 abbrev pub TellsWhy : (reached future : List ℕ → Type 0) → (holds : List ℕ → ℕ → Reason → Type 0)
     → (octet : ℕ) → Reason
@@ -66,7 +66,7 @@ abbrev pub TellsWhy : (reached future : List ℕ → Type 0) → (holds : List �
 TellsWhy reached future holds octet reason =
     (s : List ℕ) → reached s → Passes future → IsLowest (holds s octet) reason
 
--- Whatever octets were reached: the reason is that of the octet at this place of those that came
+-- For any octets that were reached: the reason is that of the octet at this place of those that came
 -- after them.
 abbrev pub TellsWhyAt : (reached : List ℕ → Type 0) → (holds : List ℕ → ℕ → Reason → Type 0)
     → (octets : List ℕ)
@@ -86,10 +86,10 @@ SameConditions holds other =
     (kind : Kind) (records : ℕ) (profile : Profile) (s : List ℕ) (b : ℕ) (reason : Reason)
     → holds kind records profile s b reason ↔ other kind records profile s b reason
 
--- these are the sets, whatever the number of records
+-- these are the sets, for any number of records
 abbrev pub AreSets : KindSets → (Kind → Profile → List ℕ → Type 0) → Type 0
 AreSets set payloads = SameSets set (λ kind records. payloads kind)
 
--- these are the conditions, whatever the number of records
+-- these are the conditions, for any number of records
 abbrev pub AreConditions : KindConditions → (Kind → Profile → List ℕ → ℕ → Reason → Type 0) → Type 0
 AreConditions holds conditions = SameConditions holds (λ kind records. conditions kind)

@@ -1,4 +1,4 @@
--- What the laws of a language for the records of a message say.
+-- The laws of a language for the records of a message.
 use Rattle.std.specs.Prelude.{ℕ, List, ◌↔◌}
 use Rattle.ndef_format.specs.Records.{AreOctets}
 use Rattle.ndef_format.specs.declared.profile.Profile.{Profile}
@@ -9,12 +9,12 @@ use Rattle.ndef_format.specs.Payloads.{Sets}
 use Rattle.ndef_format.specs.Reasons.{Conditions}
 use Rattle.ndef_lang.specs.Language.{Reaches}
 
--- The octets lead on, whatever the type, the number of records and the profile.
+-- The octets lead on, for any type, number of records and profile.
 abbrev pub LeadsEach : (old new : Sets) → List ℕ → Type 0
 LeadsEach old new octets = (tnf : Tnf) (name : List ℕ) (records : ℕ) (profile : Profile)
     → Reaches (old tnf name records profile) (new tnf name records profile) octets
 
--- What was reached is reached again after any octets, whatever the type, the number of records and the profile.
+-- A state that was reached is reached again after any octets, for any type, number of records and profile.
 abbrev pub AllLead : Sets → Type 0
 AllLead reached = (octets : List ℕ) → AreOctets octets → LeadsEach reached reached octets
 

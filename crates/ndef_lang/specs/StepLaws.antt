@@ -1,11 +1,11 @@
--- What follows of octets that are stepped at once.
+-- The effect of octets that are stepped at once.
 use Rattle.std.proofs.Common.{suc, Fits, w8, ◌≡◌, ℕ, ◌+◌, ◌-◌, ◌<◌, ◌≤◌, List, [], ◌∷◌, ◌++◌, length, get_or, take, drop, sym, ◌∙◌, ap, subst, arith, append_assoc, length-drop}
 use Rattle.std.proofs.lemmas.List.{append-nil, take_rest, get_or-drop, take-append-drop, take-take, drop-take, take_more, take_all}
 use Rattle.ndef_value.specs.ListLaws.{octets_append, octets_back}
 use Rattle.ndef_format.specs.Records.{AreOctets}
 use Rattle.ndef_format.specs.declared.reason.Reason.{Reason}
 use Rattle.ndef_lang.specs.LengthLaws.{some_octets}
-use Rattle.ndef_lang.specs.Language.{Continues, Reaches, PassesBetween, Behind, StepsAll, StepsFront}
+use Rattle.ndef_lang.specs.Language.{Continues, Reaches, PassesBetween, After, StepsAll, StepsFront}
 use Rattle.ndef_format.specs.Reasons.{IsLowest}
 
 pub follows_none : (future : List ℕ → Type 0) → Continues future future []
@@ -66,18 +66,18 @@ reaches_rest old mid new bytes n m f g = subst (Reaches old new) (take_rests byt
 
 -- ---- what passes after octets
 
-pub passes_behind : (old new : List ℕ → Type 0) (s : List ℕ) (lo hi : ℕ) → Continues old new s → PassesBetween new lo hi
-    → PassesBetween (Behind old s) lo hi
-passes_behind old new s lo hi f p = record {
+pub passes_after : (old new : List ℕ → Type 0) (s : List ℕ) (lo hi : ℕ) → Continues old new s → PassesBetween new lo hi
+    → PassesBetween (After old s) lo hi
+passes_after old new s lo hi f p = record {
   rest = p.rest;
   passed = (f p.rest).0 p.passed;
   least = p.least;
   most = p.most;
 }
 
-pub behind_passes : (old new : List ℕ → Type 0) (s : List ℕ) (lo hi : ℕ) → Continues old new s
-    → PassesBetween (Behind old s) lo hi → PassesBetween new lo hi
-behind_passes old new s lo hi f p = record {
+pub after_passes : (old new : List ℕ → Type 0) (s : List ℕ) (lo hi : ℕ) → Continues old new s
+    → PassesBetween (After old s) lo hi → PassesBetween new lo hi
+after_passes old new s lo hi f p = record {
   rest = p.rest;
   passed = (f p.rest).1 p.passed;
   least = p.least;
@@ -110,9 +110,9 @@ pub steps_whole : (old new : List ℕ → Type 0) (bytes : List ℕ) (lo hi : �
 steps_whole old new bytes lo hi f p = record {
   within = omega arith;
   stepped = subst (Continues old new) (sym (take_all (length bytes + 1) bytes (omega arith))) f;
-  fits = subst (λ s. PassesBetween (Behind old s) (lo - length bytes) (hi - length bytes))
+  fits = subst (λ s. PassesBetween (After old s) (lo - length bytes) (hi - length bytes))
       (sym (take_all (length bytes) bytes (omega arith)))
-      (passes_behind old new bytes (lo - length bytes) (hi - length bytes) f p);
+      (passes_after old new bytes (lo - length bytes) (hi - length bytes) f p);
   refused = λ l. absurd (omega arith);
 }
 
@@ -124,7 +124,7 @@ pub steps_refused : (old mid new : List ℕ → Type 0) (bytes : List ℕ) (lo h
 steps_refused old mid new bytes lo hi at l f p g bad = record {
   within = omega arith;
   stepped = follows_take old mid new bytes at l f g;
-  fits = passes_behind old mid (take at bytes) (lo - at) (hi - at) f p;
+  fits = passes_after old mid (take at bytes) (lo - at) (hi - at) f p;
   refused = λ _. bad;
 }
 
@@ -146,7 +146,7 @@ steps_on old mid new bytes lo hi n k l f t =
       stepped = subst (Continues old new) e0 (follows_more old mid new (take n bytes)
           (take (k + 1) (drop n bytes)) f s.stepped);
       fits = at_sum (lo - n - k) (hi - n - k) (lo - (n + k)) (hi - (n + k)) (omega arith) (omega arith)
-          (subst (λ x. PassesBetween (Behind old x) (lo - n - k) (hi - n - k)) e1 (twice_behind s.fits));
+          (subst (λ x. PassesBetween (After old x) (lo - n - k) (hi - n - k)) e1 (twice_after s.fits));
       refused = λ h p. s.refused (omega arith) (at_sum (lo - (n + k + 1)) (hi - (n + k + 1)) (lo - n - (k + 1))
           (hi - n - (k + 1)) (omega arith) (omega arith) p);
     }
@@ -155,9 +155,9 @@ steps_on old mid new bytes lo hi n k l f t =
         → PassesBetween future c d
     at_sum {future} a b c d e g p = subst (λ x. PassesBetween future c x) g (subst (λ x. PassesBetween future x b) e p)
 
-    twice_behind : PassesBetween (Behind mid (take k (drop n bytes))) (lo - n - k) (hi - n - k)
-        → PassesBetween (Behind old (take n bytes ++ take k (drop n bytes))) (lo - n - k) (hi - n - k)
-    twice_behind p = record {
+    twice_after : PassesBetween (After mid (take k (drop n bytes))) (lo - n - k) (hi - n - k)
+        → PassesBetween (After old (take n bytes ++ take k (drop n bytes))) (lo - n - k) (hi - n - k)
+    twice_after p = record {
       rest = p.rest;
       passed = subst old (sym (append_assoc (take n bytes) (take k (drop n bytes)) p.rest))
           ((f (take k (drop n bytes) ++ p.rest)).0 p.passed);
@@ -190,7 +190,7 @@ pub steps_through : (old new : List ℕ → Type 0) (bytes : List ℕ) (lo hi at
 steps_through old new bytes lo hi at e f p = record {
   within = omega arith;
   stepped = follows_all;
-  fits = passes_behind old new (take at bytes) (lo - at) (hi - at) f p;
+  fits = passes_after old new (take at bytes) (lo - at) (hi - at) f p;
   refused = λ l. absurd (omega arith);
 }
   where
@@ -229,6 +229,6 @@ pub steps_done : {old new : List ℕ → Type 0} {bytes : List ℕ} {lo hi count
     → count ≡ length bytes → Continues old new bytes × PassesBetween new (lo - length bytes) (hi - length bytes)
 steps_done {old} {new} {bytes} {lo} {hi} {count} s e =
     let f : Continues old new bytes = subst (Continues old new) (take_all (count + 1) bytes (omega arith)) s.stepped in
-    let p : PassesBetween (Behind old bytes) (lo - count) (hi - count) = subst
-    (λ x. PassesBetween (Behind old x) (lo - count) (hi - count)) (take_all count bytes (omega arith)) s.fits in
-    (f, subst (λ n. PassesBetween new (lo - n) (hi - n)) e (behind_passes old new bytes (lo - count) (hi - count) f p))
+    let p : PassesBetween (After old bytes) (lo - count) (hi - count) = subst
+    (λ x. PassesBetween (After old x) (lo - count) (hi - count)) (take_all count bytes (omega arith)) s.fits in
+    (f, subst (λ n. PassesBetween new (lo - n) (hi - n)) e (after_passes old new bytes (lo - count) (hi - count) f p))

@@ -3,7 +3,6 @@ ghost use Rattle.std.specs.Prelude.{◌≡◌, ◌≤◌, ◌<◌, length, take,
 ghost use Rattle.std.specs.List.{AllByRecursion};
 ghost use Rattle.ndef_format.specs.Texts.{IsSpelled, IsUtf16, IsText, IsTextIn, IsCodeOctet};
 ghost use Rattle.ndef_format.specs.Uris.{IsUri};
-ghost use Rattle.ndef_format.specs.Handovers.{IsAlternative, AreReferences, IsError, IsCarrier};
 ghost use Rattle.ndef_format.specs.Nested.{IsPayload};
 
 use super::ascii::is_ascii;
@@ -50,14 +49,14 @@ fn are_units(bytes: &[u8], little: bool) -> bool
         if most < 0xd8 || most >= 0xe0 {
             rest = more;
         } else {
-            let [c, d, behind @ ..] = more else {
+            let [c, d, following @ ..] = more else {
                 return false;
             };
             let second = if little { *d } else { *c };
             if most >= 0xdc || second < 0xdc || second >= 0xe0 {
                 return false;
             }
-            rest = behind;
+            rest = following;
         }
     }
     rest.is_empty()
@@ -115,67 +114,8 @@ fn is_uri(profile: Profile, payload: &[u8]) -> bool
     (*code <= 0x23 || matches!(profile, Profile::Standard)) && is_utf8(rest)
 }
 
-/// Whether `count` references are at the front, each after its length.
-fn are_references(count: u8, bytes: &[u8]) -> bool
-    ensures { IsTrue result → AreReferences count bytes.now }
-{
-    let mut rest = bytes;
-    for _ in 0..count {
-        let [length, more @ ..] = rest else {
-            return false;
-        };
-        let length = usize::from(*length);
-        if more.len() < length {
-            return false;
-        }
-        rest = &more[length..];
-    }
-    true
-}
-
-/// Whether it is the payload of an alternative carrier record.
-fn is_alternative(payload: &[u8]) -> bool
-    ensures { IsTrue result → IsAlternative payload.now }
-{
-    let [_, length, rest @ ..] = payload else {
-        return false;
-    };
-    let length = usize::from(*length);
-    if rest.len() < length {
-        return false;
-    }
-    let [count, references @ ..] = &rest[length..] else {
-        return false;
-    };
-    are_references(*count, references)
-}
-
-/// Whether it is the payload of a handover error record.
-fn is_error(payload: &[u8]) -> bool
-    ensures { IsTrue result → IsError payload.now }
-{
-    let [reason, data @ ..] = payload else {
-        return false;
-    };
-    match *reason {
-        1 | 3 => data.len() == 1,
-        2 => data.len() == 4,
-        _ => true,
-    }
-}
-
-/// Whether it is the payload of a handover carrier record.
-fn is_carrier(payload: &[u8]) -> bool
-    ensures { IsTrue result → IsCarrier payload.now }
-{
-    let [_, length, rest @ ..] = payload else {
-        return false;
-    };
-    usize::from(*length) <= rest.len()
-}
-
-/// Whether the payload is one of the kind; of a kind whose payloads are messages, any is. A kind that no arm
-/// names is read by its layout.
+/// Whether the payload is one of the kind; of a kind whose payloads are messages, any is. Texts and URIs are tested
+/// at once, all others by their layout.
 #[inline(always)]
 pub(crate) fn is_leaf_payload(kind: Kind, profile: Profile, payload: &[u8]) -> bool
     ensures { IsTrue result → IsPayload kind profile payload.now }
@@ -184,11 +124,6 @@ pub(crate) fn is_leaf_payload(kind: Kind, profile: Profile, payload: &[u8]) -> b
         Kind::Text => is_text(payload),
         Kind::Uri => is_uri(profile, payload),
         Kind::MediaType => is_utf8(payload),
-        Kind::Action => payload.len() == 1,
-        Kind::Size => payload.len() == 4,
-        Kind::Alternative => is_alternative(payload),
-        Kind::Error => is_error(payload),
-        Kind::Carrier => is_carrier(payload),
         Kind::Other | Kind::SmartPoster | Kind::Request | Kind::Select => true,
         _ => Leaf::of(kind, profile).is_completed_by(payload),
     }

@@ -1,12 +1,10 @@
 //! Languages of one type of payload, whatever kind they are started with.
-ghost use Rattle.std.specs.Prelude.{ℕ, List, [], IsTrue};
+ghost use Rattle.std.specs.Prelude.{◌≡◌, ℕ, List, [], IsTrue};
 ghost use Rattle.ndef_format.specs.Octets.{AreOctetsOf};
 ghost use Rattle.ndef_format.specs.Records.{AreOctets};
 ghost use Rattle.ndef_format.specs.Reasons.{NoReason};
-ghost use Rattle.ndef_format.specs.PayloadReasons.{TextReason, UriReason};
-ghost use Rattle.ndef_format.specs.Texts.{IsText};
-ghost use Rattle.ndef_format.specs.Uris.{IsUri};
-ghost use Rattle.ndef_format.specs.Handovers.{IsAlternative, IsCarrier, IsError};
+ghost use Rattle.ndef_format.specs.Nested.{IsPayload};
+ghost use Rattle.ndef_format.specs.PayloadReasons.{PayloadReason};
 ghost use Rattle.ndef_lang.specs.Language.{Continues};
 ghost use Rattle.ndef_lang.specs.Machine.Leaf.{CompletesLeaf, GoesOn};
 
@@ -17,7 +15,7 @@ use ndef_format::Kind;
 use ndef_value::{Profile, Reason};
 use std::marker::PhantomData;
 
-/// A type of payload: the payloads, why an octet of one is refused, and what reads them.
+/// A type of payload: the payloads, the reasons why an octet of one is refused, and the reader.
 pub trait PayloadType: Copy {
     ghost use Rattle.ndef_format.specs.declared.profile.Profile.{Profile};
     ghost use Rattle.ndef_format.specs.declared.reason.Reason.{Reason};
@@ -25,14 +23,14 @@ pub trait PayloadType: Copy {
     /// The payloads.
     ghost payloads: { Profile → List ℕ → Type 0 };
 
-    /// Which reasons hold of an octet after the octets of a payload before it.
+    /// The reasons that hold of an octet after the octets of a payload before it.
     ghost reasons: { Profile → List ℕ → ℕ → Reason → Type 0 };
 
     /// Whether it is clear at once that the payload is one of them. Where it is false, the payload may still be one.
     fn has(_profile: Profile, _payload: &[u8]) -> bool
         ensures { IsTrue result → payloads _profile _payload.now };
 
-    /// Before the first octet.
+    /// Returns the state before the first octet.
     fn first(_profile: Profile) -> Leaf
         ensures future { Continues (payloads _profile) (CompletesLeaf result) [] }
         ensures goes { GoesOn (reasons _profile) [] result };
@@ -52,7 +50,7 @@ impl<T: PayloadType> Language for Only<T> {
     ghost use Rattle.ndef_lang.specs.Lengths.{meets};
     ghost use Rattle.ndef_lang.specs.LengthLaws.{lengths_fit};
     ghost use Rattle.ndef_lang.specs.Machine.LeafLaws.{completes_leaf_octets, are_leaf_lengths};
-    ghost use Rattle.ndef_lang.specs.Machine.Leaf.{CompletesLeaf, ReachedBy, leaf_lengths, leaf_told};
+    ghost use Rattle.ndef_lang.specs.Machine.Leaf.{CompletesLeaf, ReachedBy, leaf_lengths, leaf_reason};
 
     ghost payloads = { λ kind records profile s. T.payloads profile s };
 
@@ -64,7 +62,7 @@ impl<T: PayloadType> Language for Only<T> {
 
     ghost fitting = { λ state. meets (leaf_lengths state.leaf) };
 
-    ghost reason_of_last = { λ state. leaf_told state.leaf };
+    ghost reason_of_last = { λ state. leaf_reason state.leaf };
 
     #[inline(always)]
     fn has(_kind: Kind, _records: u32, profile: Profile, payload: &[u8]) -> bool {
@@ -91,7 +89,7 @@ impl<T: PayloadType> Language for Only<T> {
     }
 
     fn reason(&self) -> Reason {
-        self.leaf.told()
+        self.leaf.refusal_reason()
     }
 
     ghost exact = { λ state lo hi few. lengths_fit (CompletesLeaf state.leaf) (leaf_lengths state.leaf) lo hi
@@ -102,124 +100,116 @@ impl<T: PayloadType> Language for Only<T> {
     ghost payloads_are_octets = { λ kind records profile s h. T.octets profile s h };
 }
 
+/// A kind of record, as a type.
+pub trait OneKind: Copy {
+    ghost use Rattle.ndef_format.specs.declared.kind.Kind.{Kind};
+
+    /// The kind.
+    ghost kind: { Kind };
+
+    /// The kind.
+    fn kind() -> Kind
+        ensures { result ≡ kind };
+}
+
+/// The payloads of one kind of record.
+#[derive(Clone, Copy, Debug, PartialEq, Eq)]
+pub struct PayloadsOf<K: OneKind> {
+    of: PhantomData<K>,
+}
+
+impl<K: OneKind> PayloadType for PayloadsOf<K> {
+    ghost use Rattle.ndef_lang.specs.Machine.LeafLaws.{payload_octets};
+
+    ghost payloads = { IsPayload K.kind };
+
+    ghost reasons = { PayloadReason K.kind };
+
+    #[inline(always)]
+    fn has(profile: Profile, payload: &[u8]) -> bool {
+        is_leaf_payload(K::kind(), profile, payload)
+    }
+
+    fn first(profile: Profile) -> Leaf {
+        Leaf::of(K::kind(), profile)
+    }
+
+    ghost octets = { payload_octets K.kind };
+}
+
 /// Texts (RTD Text 1.0).
 #[derive(Clone, Copy, Debug, PartialEq, Eq)]
 pub struct Texts;
 
-impl PayloadType for Texts {
+impl OneKind for Texts {
     ghost use Rattle.ndef_format.specs.declared.kind.Kind.TheVariants.{Text};
-    ghost use Rattle.ndef_lang.specs.Machine.LeafLaws.{payload_octets};
 
-    ghost payloads = { λ profile. IsText };
-
-    ghost reasons = { λ profile. TextReason };
+    ghost kind = { Text };
 
     #[inline(always)]
-    fn has(profile: Profile, payload: &[u8]) -> bool {
-        is_leaf_payload(Kind::Text, profile, payload)
+    fn kind() -> Kind {
+        Kind::Text
     }
-
-    fn first(profile: Profile) -> Leaf {
-        Leaf::of(Kind::Text, profile)
-    }
-
-    ghost octets = { payload_octets Text };
 }
 
 /// URIs (RTD URI 1.0).
 #[derive(Clone, Copy, Debug, PartialEq, Eq)]
 pub struct Uris;
 
-impl PayloadType for Uris {
+impl OneKind for Uris {
     ghost use Rattle.ndef_format.specs.declared.kind.Kind.TheVariants.{Uri};
-    ghost use Rattle.ndef_lang.specs.Machine.LeafLaws.{payload_octets};
 
-    ghost payloads = { IsUri };
-
-    ghost reasons = { UriReason };
+    ghost kind = { Uri };
 
     #[inline(always)]
-    fn has(profile: Profile, payload: &[u8]) -> bool {
-        is_leaf_payload(Kind::Uri, profile, payload)
+    fn kind() -> Kind {
+        Kind::Uri
     }
-
-    fn first(profile: Profile) -> Leaf {
-        Leaf::of(Kind::Uri, profile)
-    }
-
-    ghost octets = { payload_octets Uri };
 }
 
 /// Alternative carriers (Connection Handover 1.2).
 #[derive(Clone, Copy, Debug, PartialEq, Eq)]
 pub struct Alternatives;
 
-impl PayloadType for Alternatives {
+impl OneKind for Alternatives {
     ghost use Rattle.ndef_format.specs.declared.kind.Kind.TheVariants.{Alternative};
-    ghost use Rattle.ndef_lang.specs.Machine.LeafLaws.{payload_octets};
 
-    ghost payloads = { λ profile. IsAlternative };
-
-    ghost reasons = { λ profile s b. NoReason };
+    ghost kind = { Alternative };
 
     #[inline(always)]
-    fn has(profile: Profile, payload: &[u8]) -> bool {
-        is_leaf_payload(Kind::Alternative, profile, payload)
+    fn kind() -> Kind {
+        Kind::Alternative
     }
-
-    fn first(profile: Profile) -> Leaf {
-        Leaf::of(Kind::Alternative, profile)
-    }
-
-    ghost octets = { payload_octets Alternative };
 }
 
 /// Handover errors (Connection Handover 1.2).
 #[derive(Clone, Copy, Debug, PartialEq, Eq)]
 pub struct Errors;
 
-impl PayloadType for Errors {
+impl OneKind for Errors {
     ghost use Rattle.ndef_format.specs.declared.kind.Kind.TheVariants.{Error};
-    ghost use Rattle.ndef_lang.specs.Machine.LeafLaws.{payload_octets};
 
-    ghost payloads = { λ profile. IsError };
-
-    ghost reasons = { λ profile s b. NoReason };
+    ghost kind = { Error };
 
     #[inline(always)]
-    fn has(profile: Profile, payload: &[u8]) -> bool {
-        is_leaf_payload(Kind::Error, profile, payload)
+    fn kind() -> Kind {
+        Kind::Error
     }
-
-    fn first(profile: Profile) -> Leaf {
-        Leaf::of(Kind::Error, profile)
-    }
-
-    ghost octets = { payload_octets Error };
 }
 
 /// Handover carriers (Connection Handover 1.2).
 #[derive(Clone, Copy, Debug, PartialEq, Eq)]
 pub struct Carriers;
 
-impl PayloadType for Carriers {
+impl OneKind for Carriers {
     ghost use Rattle.ndef_format.specs.declared.kind.Kind.TheVariants.{Carrier};
-    ghost use Rattle.ndef_lang.specs.Machine.LeafLaws.{payload_octets};
 
-    ghost payloads = { λ profile. IsCarrier };
-
-    ghost reasons = { λ profile s b. NoReason };
+    ghost kind = { Carrier };
 
     #[inline(always)]
-    fn has(profile: Profile, payload: &[u8]) -> bool {
-        is_leaf_payload(Kind::Carrier, profile, payload)
+    fn kind() -> Kind {
+        Kind::Carrier
     }
-
-    fn first(profile: Profile) -> Leaf {
-        Leaf::of(Kind::Carrier, profile)
-    }
-
-    ghost octets = { payload_octets Carrier };
 }
 
 /// Lists of `N` octets.
@@ -251,28 +241,28 @@ impl<const N: u32> PayloadType for OctetsOf<N> {
 ///
 /// A payload is a status octet with bit 6 clear, as many octets of language code up to 7F as bits 5
 /// to 0 of it say, and a text: in UTF-16 where bit 7 is set, else in UTF-8.
-pub type TextLang = Only<Texts>;
+pub type TextLang = Only<PayloadsOf<Texts>>;
 
 /// The payloads of URI records (RTD URI 1.0).
 ///
 /// A payload is a code and a UTF-8 text. The codes above 23 hexadecimal are reserved: a strict
 /// reader refuses them, and any other reader takes any code.
-pub type UriLang = Only<Uris>;
+pub type UriLang = Only<PayloadsOf<Uris>>;
 
 /// The payloads of alternative carrier records (Connection Handover 1.2).
 ///
 /// A payload is an octet with the power state, a carrier reference after an octet with its length,
 /// an octet with the number of auxiliary references, each of these after its length, and any octets.
-pub type AcLang = Only<Alternatives>;
+pub type AcLang = Only<PayloadsOf<Alternatives>>;
 
 /// The payloads of handover error records (Connection Handover 1.2).
 ///
 /// A payload is a reason and its data: one octet for reasons 1 and 3, four for 2, any for others.
-pub type ErrLang = Only<Errors>;
+pub type ErrLang = Only<PayloadsOf<Errors>>;
 
 /// The payloads of handover carrier records (Connection Handover 1.2): a format octet, a type after an
 /// octet with its length, and any octets.
-pub type HcLang = Only<Carriers>;
+pub type HcLang = Only<PayloadsOf<Carriers>>;
 
 /// Payloads of `N` octets, as a size of four.
 pub type Fixed<const N: u32> = Only<OctetsOf<N>>;

@@ -39,9 +39,9 @@ pub fn is_type(own: Tnf, own_name: &[u8], tnf: Tnf, name: &[u8]) -> bool
 /// The payloads of the own type, and those of the other language for any other type.
 #[derive(Drop)]
 pub enum With<T: OwnType, L: RecordLanguage> {
-    /// Of the own type.
+    /// A payload of the own type.
     Own(T::Payload),
-    /// Of any other.
+    /// A payload of any other type.
     Base(L),
 }
 

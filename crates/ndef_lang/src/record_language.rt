@@ -1,4 +1,4 @@
-//! What a language for the records of a message is.
+//! The trait of a language for the records of a message.
 ghost use Rattle.std.specs.Prelude.{◌≡◌, ℕ, ◌+◌, ◌^◌, ◌<◌, ◌≤◌, Bool, List, [], ◌∷◌, ◌↔◌, IsTrue, length, take};
 ghost use Rattle.ndef_format.specs.Records.{AreOctets};
 ghost use Rattle.ndef_format.specs.Payloads.{Sets};
@@ -9,12 +9,12 @@ ghost use Rattle.ndef_lang.specs.RecordLanguage.{LeadsEach, AllLead, TakesOthers
 use ndef_format::Tnf;
 use ndef_value::{Profile, Reason};
 
-/// Which payloads a record of a message may have, by its type, read one octet at a time. It is what a checker, a
+/// The payloads that a record of a message may have, by its type, read one octet at a time. It is what a checker, a
 /// decoder and their kin take for a type parameter. `Typed` of ndef_nest has the payloads that the standards define,
 /// [`Leaf`](crate::Leaf) those of them with no message in them, [`Opaque`](crate::Opaque) any; by
 /// [`With`](crate::With) a crate adds record types of its own to another language, and it may write a whole language.
 ///
-/// A language that goes by the kinds of the types answers `Kind::of(tnf, name)` first, and says so by `by_kind`.
+/// A language that goes by the kinds of the types answers `Kind::of(tnf, name)` first, and declares so by `by_kind`.
 pub trait RecordLanguage: Drop {
     ghost use Rattle.ndef_format.specs.Laws.{TypesStay};
     ghost use Rattle.ndef_format.specs.declared.profile.Profile.{Profile};
@@ -24,19 +24,19 @@ pub trait RecordLanguage: Drop {
     /// The payloads of a type.
     ghost payloads: { Sets };
 
-    /// Which reasons hold of an octet after the octets of a payload before it.
+    /// The reasons that hold of an octet after the octets of a payload before it.
     ghost reasons: { Conditions };
 
-    /// What completes the octets so far to a payload.
+    /// The octets that complete the octets so far to a payload.
     ghost future: { Self → List ℕ → Type 0 };
 
     /// The octets so far.
     ghost reached: { Self → Format → List ℕ → ℕ → Profile → List ℕ → Type 0 };
 
-    /// What `fits` answers.
+    /// The result of `fits`.
     ghost fitting: { Self → ℕ → ℕ → Bool };
 
-    /// What `reason` answers.
+    /// The result of `reason`.
     ghost reason_of_last: { Self → Reason };
 
     /// Whether it is clear at once that the payload is one of the type, in a message whose inner messages have at most
@@ -55,14 +55,14 @@ pub trait RecordLanguage: Drop {
         false
     }
 
-    /// Before the first octet of a payload of the type; a message within it has at most `records` records, 1 to 65535.
+    /// Returns the state before a payload of the type; a message within it has at most `records` records, 1 to 65535.
     fn start(tnf: Tnf, name: &[u8], records: u32, profile: Profile) -> Self
         requires some { 1 ≤ records }
         requires few { records < 2 ^ 16 }
         ensures future { Continues (payloads tnf name.now records profile) (future result) [] }
         ensures reached { reached result tnf name.now records profile [] };
 
-    /// Takes an octet. Where something could follow before it, `reason` then says why this octet is refused, if it is.
+    /// Takes an octet. If something could follow before it, `reason` then returns why this octet is refused, if it is.
     fn step(&mut self, byte: u8)
         ensures future { Continues (future self.old) (future self.new) (byte ∷ []) }
         ensures reached { LeadsEach (reached self.old) (reached self.new) (byte ∷ []) }
@@ -76,7 +76,7 @@ pub trait RecordLanguage: Drop {
         ensures { result ≡ fitting self.now lo hi };
 
     /// Takes octets while what is still to come, `lo` to `hi` octets before the first of them, can complete a payload,
-    /// and returns their number. Where that is fewer than all, it has taken one more, and `reason` says why that one is
+    /// and returns their number. If that is fewer than all, it has taken one more, and `reason` returns why that one is
     /// refused.
     fn step_all(&mut self, bytes: &[u8], lo: u64, hi: u64) -> usize
         requires enough { length bytes.now ≤ lo }
@@ -107,7 +107,7 @@ pub trait RecordLanguage: Drop {
         false
     }
 
-    /// Why the octet taken last is refused, if it is.
+    /// The reason why the octet taken last is refused, if it is.
     fn reason(&self) -> Reason
         ensures { result ≡ reason_of_last self.now };
 
@@ -115,7 +115,7 @@ pub trait RecordLanguage: Drop {
     ghost exact: { (state : Self) (lo hi : ℕ) → hi < 2 ^ 32
         → IsTrue (fitting state lo hi) ↔ PassesBetween (future state) lo hi };
 
-    /// What completes a payload is octets.
+    /// The completions of a payload are octets.
     ghost future_octets: { (state : Self) (r : List ℕ) → future state r → AreOctets r };
 
     /// A payload is octets.

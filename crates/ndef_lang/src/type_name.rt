@@ -10,7 +10,7 @@ pub struct TypeName {
 }
 
 impl TypeName {
-    /// Before the first octet.
+    /// Returns the name before the first octet.
     pub fn new() -> Self
         ensures { name_of result ≡ [] }
     {

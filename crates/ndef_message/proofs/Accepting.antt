@@ -24,11 +24,11 @@ use Rattle.ndef_piece.specs.Whole.{IsSplit, shown}
 use Rattle.ndef_piece.specs.declared.head_reader.Step.TheVariants as steps
 use Rattle.ndef_piece.specs.declared.whole.WholePiece.{WholePiece}
 use Rattle.ndef_format.specs.Accepted.{IsMember, IsViable}
-use Rattle.ndef_message.specs.Machine.Fronts.{Fronts, Leads, WhateverLed}
+use Rattle.ndef_message.specs.Machine.Fronts.{Fronts, IsReachable, ForEachInput}
 use Rattle.ndef_message.specs.Machine.Points.{Point, InHead, AtEnd, IsAtPoint}
-use Rattle.ndef_message.specs.Machine.Accepted.{AreTakenRecords, BeginsWith, Comes, EndsRecords, EndsRun, RunGoesOn, IsBehind, IsFresh, IsTakenRecord, IsRunEnd, LeadsBetween, record_of, with_payload}
+use Rattle.ndef_message.specs.Machine.Accepted.{AreTakenRecords, BeginsWith, Comes, EndsRecords, EndsRun, RunGoesOn, IsAfter, IsFresh, IsTakenRecord, IsRunEnd, IsReachableBetween, record_of, with_payload}
 use Rattle.ndef_message.specs.Machine.Format.{FormatLaws}
-use Rattle.ndef_message.specs.Machine.State.{numbers, spot_of, behind_chunk, behind_record, Stands, Knows}
+use Rattle.ndef_message.specs.Machine.State.{numbers, spot_of, past_chunk, after_record, IsConsistentAt, MatchesInput}
 use Rattle.ndef_message.specs.declared.phase.Place.{Place}
 use Rattle.ndef_message.specs.declared.phase.Phase.TheVariants as phases
 use Rattle.ndef_message.specs.declared.state.State.{State}
@@ -70,14 +70,14 @@ walked_append limits (p ∷ ps) qs b c d given items w x =
     (w.0, w.1, w.2 ++ items, ap (λ z. z ++ items) w.3 ∙ append_assoc (ending_record b p) w.2 items, walked_append limits ps qs (after limits b p) c d w.2 items w.4 x)
 
 -- a piece that ends its record
-walked_end : (limits : LimitValues) (c : Before) (p : Piece) → c.over ≡ false → pieces.Stands (spot limits.profile c) p → p.chunked ≡ false
+walked_end : (limits : LimitValues) (c : Before) (p : Piece) → c.over ≡ false → pieces.IsConsistentAt (spot limits.profile c) p → p.chunked ≡ false
     → Walked limits c (p ∷ []) (record_with c.begun p ∷ []) (outside limits false p.last (c.records - 1))
 walked_end limits c p o s e =
     let w = walked_snoc limits [] c c [] p (refl, refl) o s in
     subst (Walked limits c (p ∷ []) (record_with c.begun p ∷ [])) (after_end limits c p e) (subst (λ x. Walked limits c (p ∷ []) x (after limits c p)) (ended_one c p e) w)
 
 -- a piece that doesn't end its record
-walked_on : (limits : LimitValues) (c : Before) (p : Piece) → c.over ≡ false → pieces.Stands (spot limits.profile c) p → p.chunked ≡ true
+walked_on : (limits : LimitValues) (c : Before) (p : Piece) → c.over ≡ false → pieces.IsConsistentAt (spot limits.profile c) p → p.chunked ≡ true
     → Walked limits c (p ∷ []) [] (inside c.records (c.pieces - 1) (c.room - length p.payload) (record_with c.begun p))
 walked_on limits c p o s e =
     let w = walked_snoc limits [] c c [] p (refl, refl) o s in
@@ -111,7 +111,7 @@ module _ (set : Sets) (limits : LimitValues) (place : Place) (bytes : List ℕ) 
         pieces = p ∷ [];
         spelled = subst (SpellsPieces (p ∷ [])) (sym f.1) (spelled_one p (is_set 4 w.header) b.split.front b.split.spells);
         walked = subst (λ m. Walked limits c (p ∷ []) (m ∷ []) (outside limits false p.last (c.records - 1))) item
-            (walked_end limits c p over (subst (λ x. pieces.Stands (spot_of limits.profile x) p) e b.stands) b.one);
+            (walked_end limits c p over (subst (λ x. pieces.IsConsistentAt (spot_of limits.profile x) p) e b.stands) b.one);
         members = (b.member, tt);
       }
 
@@ -156,7 +156,7 @@ run_start limits records count room m place bytes e =
     }
 
 module _ (limits : LimitValues) (records count room : ℕ) (m : Item) (bytes rest : List ℕ) (place : Place) (g : RunGoesOn limits (inside records count room m) m place bytes rest)
-    (p : Piece) (short : Bool) (behind : List ℕ) (split : IsSplit p short behind rest) (stands : pieces.Stands (spot_of limits.profile place) p) where
+    (p : Piece) (short : Bool) (following : List ℕ) (split : IsSplit p short following rest) (stands : pieces.IsConsistentAt (spot_of limits.profile place) p) where
   abbrev c : Before
   c = inside records g.pieces_left g.room_left (with_payload m g.payload)
 
@@ -166,23 +166,23 @@ module _ (limits : LimitValues) (records count room : ℕ) (m : Item) (bytes res
   more_is : record_with (Some (with_payload m g.payload)) p ≡ more
   more_is = ap (λ z. record { tnf = m.tnf; kind = m.kind; id = m.id; payload = z }) (append_assoc m.payload g.payload p.payload)
 
-  at_c : pieces.Stands (spot limits.profile c) p
-  at_c = subst (λ x. pieces.Stands (spot_of limits.profile x) p) g.place_is stands
+  at_c : pieces.IsConsistentAt (spot limits.profile c) p
+  at_c = subst (λ x. pieces.IsConsistentAt (spot_of limits.profile x) p) g.place_is stands
 
-  all_joined : bytes ≡ (g.front ++ split.front) ++ behind
-  all_joined = g.joined ∙ ap (λ x. g.front ++ x) split.joined ∙ sym (append_assoc g.front split.front behind)
+  all_joined : bytes ≡ (g.front ++ split.front) ++ following
+  all_joined = g.joined ∙ ap (λ x. g.front ++ x) split.joined ∙ sym (append_assoc g.front split.front following)
 
   all_spelled : SpellsPieces (g.later ++ p ∷ []) (g.front ++ split.front)
   all_spelled = spell_append g.later (p ∷ []) g.front split.front g.spelled (spelled_one p short split.front split.spells)
 
-  pub run_on : (place' : Place) → p.chunked ≡ true → place' ≡ behind_chunk place (length p.payload) → RunGoesOn limits (inside records count room m) m place' bytes behind
+  pub run_on : (place' : Place) → p.chunked ≡ true → place' ≡ past_chunk place (length p.payload) → RunGoesOn limits (inside records count room m) m place' bytes following
   run_on place' e is = record {
     later = g.later ++ p ∷ [];
     payload = g.payload ++ p.payload;
     front = g.front ++ split.front;
     pieces_left = g.pieces_left - 1;
     room_left = g.room_left - length p.payload;
-    place_is = is ∙ ap (λ x. behind_chunk x (length p.payload)) g.place_is;
+    place_is = is ∙ ap (λ x. past_chunk x (length p.payload)) g.place_is;
     joined = all_joined;
     octets = octets_append g.payload p.payload g.octets split.spells.piece.payload;
     spelled = all_spelled;
@@ -190,9 +190,9 @@ module _ (limits : LimitValues) (records count room : ℕ) (m : Item) (bytes res
         (subst (λ x. Walked limits c (p ∷ []) [] (inside records (g.pieces_left - 1) (g.room_left - length p.payload) x)) more_is (walked_on limits c p refl at_c e));
   }
 
-  pub run_end : (n : ℕ) → p.chunked ≡ false → n ≡ length bytes - length behind → (n ≤ length bytes) × EndsRun limits records count room m (take n bytes) p.last
+  pub run_end : (n : ℕ) → p.chunked ≡ false → n ≡ length bytes - length following → (n ≤ length bytes) × EndsRun limits records count room m (take n bytes) p.last
   run_end n e is =
-      let f = front_of bytes (g.front ++ split.front) behind n all_joined is in (
+      let f = front_of bytes (g.front ++ split.front) following n all_joined is in (
         f.0,
         record {
           later = g.later ++ p ∷ [];
@@ -206,8 +206,8 @@ module _ (limits : LimitValues) (records count room : ℕ) (m : Item) (bytes res
 
 -- a piece that begins a run, and the run
 pub run_from : (set : Sets) (limits : LimitValues) (place : Place) (bytes : List ℕ) (p : Piece) (short : Bool) (rest : List ℕ) (taken k : ℕ) (last : Bool) (next : Place) → IsSplit p short rest bytes
-    → pieces.Stands (spot_of limits.profile place) p → p.chunked ≡ true → place.inside ≡ false → ((s : List ℕ) → AreOctets s → set (tnf_of p.tnf) p.kind limits.records limits.profile s) → taken ≡ length bytes - length rest
-    → next ≡ behind_chunk place (length p.payload) → k ≤ length rest → IsRunEnd limits next (take k rest) last → IsTakenRecord set limits place bytes (taken + k) last
+    → pieces.IsConsistentAt (spot_of limits.profile place) p → p.chunked ≡ true → place.inside ≡ false → ((s : List ℕ) → AreOctets s → set (tnf_of p.tnf) p.kind limits.records limits.profile s) → taken ≡ length bytes - length rest
+    → next ≡ past_chunk place (length p.payload) → k ≤ length rest → IsRunEnd limits next (take k rest) last → IsTakenRecord set limits place bytes (taken + k) last
 run_from set limits place bytes p short rest taken k last next split stands chunked outer any is ne small run =
     let f = front_and bytes split.front rest taken k split.joined is small in
     let shorter = split_shorter p short rest bytes split in
@@ -218,9 +218,9 @@ run_from set limits place bytes p short rest taken k last next split stands chun
       outer = outer;
       ends = λ c e none over.
           let d = inside c.records (c.pieces - 1) (c.room - length p.payload) m in
-          let r = run c.records (c.pieces - 1) (c.room - length p.payload) m (ne ∙ ap (λ x. behind_chunk x (length p.payload)) e) in
+          let r = run c.records (c.pieces - 1) (c.room - length p.payload) m (ne ∙ ap (λ x. past_chunk x (length p.payload)) e) in
           let w : Walked limits c (p ∷ []) [] d = subst (λ b. Walked limits c (p ∷ []) [] (inside c.records (c.pieces - 1) (c.room - length p.payload) (record_with b p))) none
-          (walked_on limits c p over (subst (λ x. pieces.Stands (spot_of limits.profile x) p) e stands) chunked) in (
+          (walked_on limits c p over (subst (λ x. pieces.IsConsistentAt (spot_of limits.profile x) p) e stands) chunked) in (
             with_payload m r.payload,
             record {
               pieces = p ∷ r.later;
@@ -239,7 +239,7 @@ records_start set limits place bytes = record {
 }
 
 pub records_on : (set : Sets) (limits : LimitValues) (place mid place' : Place) (bytes : List ℕ) (at n : ℕ) (last : Bool) → AreTakenRecords set limits place bytes at mid false → IsTakenRecord set limits mid (rest bytes at) n last
-    → place' ≡ behind_record limits mid → AreTakenRecords set limits place bytes (at + n) place' last
+    → place' ≡ after_record limits mid → AreTakenRecords set limits place bytes (at + n) place' last
 records_on set limits place mid place' bytes at n last g r is =
     let small = g.within in
     let more = r.within in
@@ -251,7 +251,7 @@ records_on set limits place mid place' bytes at n last g r is =
           let d = outside limits false last (x.there.records - 1) in
           record {
             there = d;
-            place_is = is ∙ ap (behind_record limits) x.place_is;
+            place_is = is ∙ ap (after_record limits) x.place_is;
             no_run = refl;
             over = refl;
             some = λ h. refl;
@@ -286,7 +286,7 @@ module _ {L : Type 0} (language : Ghosts L) (limits : LimitValues) (state : Stat
     pub at : IsAtPoint limits bytes given (InHead c [])
     pub viable : IsViable language.payloads limits bytes
 
-  pub between : IsFresh state → Stands language limits state bytes given point → AtBetween
+  pub between : IsFresh state → IsConsistentAt language limits state bytes given point → AtBetween
   between fresh s =
       let a = at_head point fresh.phase_is s in
       let nil : a.xs ≡ [] = sym (ap (λ x. x.octets) a.reader_is) ∙ fresh.empty in
@@ -311,10 +311,10 @@ module _ (laws : FormatLaws) {L : Type 0} {language : Ghosts L} {limits : LimitV
     (others : TakesOthers language.payloads)
     {bytes : List ℕ} {given : List Item} {c : Before} (at : IsAtPoint limits bytes given (InHead c [])) (v : IsViable language.payloads limits bytes)
     {items : List Item} {left : ℕ} (last : Bool) {t : List ℕ} (ends : EndsRecords language.payloads limits c items left last t)
-    (new : State L) {place : Place} (is : place ≡ numbers (outside limits false last left)) (behind : IsBehind limits new place last) where
+    (new : State L) {place : Place} (is : place ≡ numbers (outside limits false last left)) (following : IsAfter limits new place last) where
   -- the records lead after them
-  pub leads_behind : LeadsBetween (Stands language limits new) (bytes ++ t) (given ++ items)
-  leads_behind =
+  pub reaches_after : IsReachableBetween (IsConsistentAt language limits new) (bytes ++ t) (given ++ items)
+  reaches_after =
       let ps = at.pieces ++ ends.pieces in
       let d = outside limits false last left in
       let start_is : bytes ≡ at.done = at.split ∙ append-nil at.done in
@@ -323,14 +323,14 @@ module _ (laws : FormatLaws) {L : Type 0} {language : Ghosts L} {limits : LimitV
       let m = members_append language.payloads limits given items (given_members laws language.payloads limits range bytes given (InHead c []) at v) ends.members in
       let all : bytes ++ t ≡ (at.done ++ t) ++ [] = ap (λ x. x ++ t) start_is ∙ sym (append-nil (at.done ++ t)) in
       let more : IsViable language.payloads limits (bytes ++ t) = subst (IsViable language.payloads limits) (sym all) (viable laws limits language.payloads range ps d (given ++ items) (at.done ++ t) w s [] m (finished_by laws language.payloads limits (others Empty [] (inl refl) limits.records limits.profile [] tt) last left)) in
-      let reader : last ≡ false → new.reader ≡ record { spot = spot limits.profile d; octets = []; answer = steps.More } = λ e. behind.reader_is e ∙ ap (λ x. record { spot = spot_of limits.profile x; octets = []; answer = steps.More }) is in
-      let opens : last ≡ false → IsOpen (spot limits.profile d) [] = λ e. subst (λ x. IsOpen (spot_of limits.profile x) []) is (behind.opens e) in
-      by_end last ps w s all more (behind.place_is ∙ is) reader opens behind.phase_is
+      let reader : last ≡ false → new.reader ≡ record { spot = spot limits.profile d; octets = []; answer = steps.More } = λ e. following.reader_is e ∙ ap (λ x. record { spot = spot_of limits.profile x; octets = []; answer = steps.More }) is in
+      let opens : last ≡ false → IsOpen (spot limits.profile d) [] = λ e. subst (λ x. IsOpen (spot_of limits.profile x) []) is (following.opens e) in
+      by_end last ps w s all more (following.place_is ∙ is) reader opens following.phase_is
     where
       by_end : (last : Bool) (ps : List Piece) → Walked limits (start limits) ps (given ++ items) (outside limits false last left) → SpellsPieces ps (at.done ++ t) → bytes ++ t ≡ (at.done ++ t) ++ []
           → IsViable language.payloads limits (bytes ++ t) → new.place ≡ numbers (outside limits false last left)
           → (last ≡ false → new.reader ≡ record { spot = spot limits.profile (outside limits false last left); octets = []; answer = steps.More }) → (last ≡ false → IsOpen (spot limits.profile (outside limits false last left)) [])
-          → new.phase ≡ (if last then phases.Done else phases.Head) → LeadsBetween (Stands language limits new) (bytes ++ t) (given ++ items)
+          → new.phase ≡ (if last then phases.Done else phases.Head) → IsReachableBetween (IsConsistentAt language limits new) (bytes ++ t) (given ++ items)
       by_end true ps w s e v e1 e2 o ee =
           let d = outside limits false true left in
           (AtEnd d, (d, refl, inr refl), record { at = record { pieces = ps; done = at.done ++ t; walked = w; spelled = s; split = e; proper = refl }; viable = v; matches = (e1, ee) })
@@ -341,20 +341,20 @@ module _ (laws : FormatLaws) {L : Type 0} {language : Ghosts L} {limits : LimitV
 -- the record in one piece leads after it
 pub record_passed : (laws : FormatLaws) {L : Type 0} {language : Ghosts L} (limits : LimitValues) → AreInRange limits → (TakesOthers language.payloads)
     → (old new : State L) (input : List ℕ) (w : WholePiece) (taken : ℕ) → IsFresh old → BeginsWith language.payloads limits old.place input w → taken ≡ length input - length w.rest.now
-    → IsBehind limits new (behind_record limits old.place) (is_set 6 w.header)
-    → WhateverLed (Stands language limits old) (λ bytes given point. LeadsBetween (Stands language limits new) (bytes ++ take taken input) (given ++ record_of w ∷ []))
-record_passed laws {language = language} limits range others old new input w taken fresh begins is behind bytes given point s =
+    → IsAfter limits new (after_record limits old.place) (is_set 6 w.header)
+    → ForEachInput (IsConsistentAt language limits old) (λ bytes given point. IsReachableBetween (IsConsistentAt language limits new) (bytes ++ take taken input) (given ++ record_of w ∷ []))
+record_passed laws {language = language} limits range others old new input w taken fresh begins is following bytes given point s =
     let a = between language limits old bytes given point fresh s in
     let ends = one_record language.payloads limits old.place input w taken begins is a.c a.place_is a.none a.over in
-    leads_behind laws range others a.at a.viable (is_set 6 w.header) ends new (ap (behind_record limits) a.place_is) behind
+    reaches_after laws range others a.at a.viable (is_set 6 w.header) ends new (ap (after_record limits) a.place_is) following
 
 -- ---- this number of bytes
 
 module _ {L : Type 0} (language : Ghosts L) (limits : LimitValues) (state : State L) (front bytes : List ℕ) (n taken : ℕ) (most : n ≤ length bytes) (is : taken ≡ length front)
-    (given : List Item) (point : Point) (s : Stands language limits state (front ++ take n bytes) given point) where
+    (given : List Item) (point : Point) (s : IsConsistentAt language limits state (front ++ take n bytes) given point) where
   -- .. led there
-  pub taken_knows : Knows language limits state (taken + n) (front ++ take n bytes) given point
-  taken_knows = (omega (arith, length-append front (take n bytes), length-take-le n bytes most), inl s)
+  pub taken_matches_input : MatchesInput language limits state (taken + n) (front ++ take n bytes) given point
+  taken_matches_input = (omega (arith, length-append front (take n bytes), length-take-le n bytes most), inl s)
 
   -- .. are no more than a message has
   pub taken_bounded : FormatLaws → AreInRange limits → taken + n < 2 ^ 60
@@ -363,5 +363,5 @@ module _ {L : Type 0} (language : Ghosts L) (limits : LimitValues) (state : Stat
 -- ---- from front to front
 
 -- nothing was taken
-pub none_taken : (reached : Fronts Point) (bytes : List ℕ) (given : List Item) (point : Point) → reached bytes given point → Leads reached (bytes ++ [])
+pub none_taken : (reached : Fronts Point) (bytes : List ℕ) (given : List Item) (point : Point) → reached bytes given point → IsReachable reached (bytes ++ [])
 none_taken reached bytes given point r = (given, point, subst (λ y. reached y given point) (sym (append-nil bytes)) r)

@@ -1,4 +1,4 @@
--- What a checker answers of all the bytes that it was fed.
+-- The answers of a checker to all the bytes that it was fed.
 use Rattle.std.proofs.Common.{◌≡◌, ℕ, ◌+◌, ◌-◌, ◌<◌, ◌≤◌, ◌⊎◌, inl, inr, refl, sym, ◌∙◌, ap, subst, arith, List, [], ◌++◌, length, take, length-append}
 use Rattle.std.specs.Prelude.{Result, Ok, Err, ⊤}
 use Rattle.std.proofs.lemmas.Bool.{cases_lt}
@@ -19,7 +19,7 @@ use Rattle.ndef_message.specs.Feed.{Tells, TellsEnd, IsLongestViable, CountsReco
 use Rattle.ndef_message.specs.Opened.{IsTaken, HasLed}
 use Rattle.ndef_message.specs.Machine.Checkers.{CheckerReached}
 use Rattle.ndef_message.specs.Machine.Format.{FormatLaws}
-use Rattle.ndef_message.specs.Machine.Fronts.{Fronts, Leads, Feeds, WhateverLed, SomeLed}
+use Rattle.ndef_message.specs.Machine.Fronts.{Fronts, IsReachable, Feeds, ForEachInput, SomeLed}
 use Rattle.ndef_message.specs.Machine.Points.{Point}
 use Rattle.ndef_message.specs.Machine.State.{Reached}
 use Rattle.ndef_message.specs.Machine.Taken.{HaveCome, WasFed}
@@ -30,7 +30,7 @@ use Rattle.ndef_message.proofs.Ended.{deep_given, refuses}
 use Rattle.ndef_message.proofs.Led.{checker_led}
 use Rattle.ndef_message.proofs.Places.{no_prefix_is_deep, order, refused_alike, viable_shorter}
 use Rattle.ndef_message.proofs.Rests.{deep_viable, viable_front}
-use Rattle.ndef_message.proofs.Told.{one_length}
+use Rattle.ndef_message.proofs.Reported.{one_length}
 
 -- a list of which a front is viable
 viable_part : (set : Sets) (limits : LimitValues) (a b : List ℕ) (n : ℕ) → length a ≤ n → IsViable set limits (take n (a ++ b)) → IsViable set limits a
@@ -40,8 +40,8 @@ viable_part set limits a b n h v =
     viable_front set limits a (take (n - length a) b) (subst (IsViable set limits) e v)
 
 -- bytes after a message complete none
-none_behind : OneMeaning → (set : Sets) (limits : LimitValues) (bytes : List ℕ) (m n : ℕ) → m < n → n ≤ length bytes → IsAccepted set limits (take m bytes) → IsViable set limits (take n bytes) → ⊥
-none_behind meaning set limits bytes m n h within a v =
+none_after : OneMeaning → (set : Sets) (limits : LimitValues) (bytes : List ℕ) (m n : ℕ) → m < n → n ≤ length bytes → IsAccepted set limits (take m bytes) → IsViable set limits (take n bytes) → ⊥
+none_after meaning set limits bytes m n h within a v =
     let e = length-take-le m (take n bytes ++ v.0) (omega (arith, length-append (take n bytes) v.0, length-take-le n bytes within)) in
     let same : take m (take n bytes ++ v.0) ≡ take m bytes = take-append-le m (take n bytes) v.0 (omega (arith, length-take-le n bytes within)) ∙ take-take m n bytes (omega arith) in
     let k : m ≡ n + length v.0 =
@@ -59,8 +59,8 @@ module _ (meaning : OneMeaning) {Point : Type 0} {set : Sets} (holds : Condition
   abbrev all : List ℕ
   all = front ++ bytes
 
-  abbrev Told : Fed → Type 0
-  Told answer = HaveCome set limits new all × Tells set holds limits all (length front) answer
+  abbrev Reported : Fed → Type 0
+  Reported answer = HaveCome set limits new all × Tells set holds limits all (length front) answer
 
   long : length all ≡ length front + length bytes
   long = length-append front bytes
@@ -72,8 +72,8 @@ module _ (meaning : OneMeaning) {Point : Type 0} {set : Sets} (holds : Condition
   no_message place p d = no_prefix_is_deep meaning set limits (led ++ bytes) place (length led) p (subst (IsAccepted set limits) (sym (take_at led bytes (length led) refl)) d)
 
   -- more bytes are needed
-  told_more : IsViable set limits (led ++ bytes) → ¬ IsAccepted set limits (led ++ bytes) → Leads new (led ++ bytes) → Told fed.More
-  told_more v u l =
+  reported_more : IsViable set limits (led ++ bytes) → ¬ IsAccepted set limits (led ++ bytes) → IsReachable new (led ++ bytes) → Reported fed.More
+  reported_more v u l =
       let there : IsPlace set limits (led ++ bytes) (length (led ++ bytes)) =
       let e = take_all (length (led ++ bytes)) (led ++ bytes) (omega arith) in
       record { within = omega arith; viable = rw e v; unended = rw e u; stops = λ h. absurd (omega arith) } in
@@ -87,7 +87,7 @@ module _ (meaning : OneMeaning) {Point : Type 0} {set : Sets} (holds : Condition
       ] in
       let same : led ++ bytes ≡ all = ap (λ x. x ++ bytes) (take_all g.count front (omega arith)) in
       let e = take_all (length all) all (omega arith) in (
-        record { count = length all; within = omega arith; led = subst (Leads new) (same ∙ sym e) l; settled = inl refl },
+        record { count = length all; within = omega arith; led = subst (IsReachable new) (same ∙ sym e) l; settled = inl refl },
         (subst (IsViable set limits) same v, subst (λ x. ¬ IsAccepted set limits x) same u),
       )
 
@@ -121,11 +121,11 @@ module _ (meaning : OneMeaning) {Point : Type 0} {set : Sets} (holds : Condition
       ]
 
   -- they have a message at their front
-  told_done : (taken : ℕ) → taken ≤ length bytes → IsAccepted set limits (led ++ take taken bytes) → Leads new (led ++ take taken bytes) → Told (fed.Done taken)
-  told_done taken h d l =
+  reported_done : (taken : ℕ) → taken ≤ length bytes → IsAccepted set limits (led ++ take taken bytes) → IsReachable new (led ++ take taken bytes) → Reported (fed.Done taken)
+  reported_done taken h d l =
       let t = ended taken h d in
       let d' = subst (IsAccepted set limits) (sym t.2) d in (
-        record { count = t.0; within = t.1; led = subst (Leads new) (sym t.2) l; settled = inr (inl d') },
+        record { count = t.0; within = t.1; led = subst (IsReachable new) (sym t.2) l; settled = inr (inl d') },
         (t.0, (t.1, d'), t.3),
       )
 
@@ -152,35 +152,35 @@ module _ (meaning : OneMeaning) {Point : Type 0} {set : Sets} (holds : Condition
       ]
 
   -- one of them is refused
-  told_refused : (refusal : Refusal) → refusal.at < length (led ++ bytes) → Refuses set holds limits (led ++ bytes) refusal
-      → Leads new (take (refusal.at + 1) (led ++ bytes)) → Told (fed.Refused refusal)
-  told_refused refusal h r l =
+  reported_refused : (refusal : Refusal) → refusal.at < length (led ++ bytes) → Refuses set holds limits (led ++ bytes) refusal
+      → IsReachable new (take (refusal.at + 1) (led ++ bytes)) → Reported (fed.Refused refusal)
+  reported_refused refusal h r l =
       let a = alike refusal h r in
       let refused : Refuses set holds limits all refusal = refused_alike set holds limits (led ++ bytes) all refusal h a.0 a.1 r in
       let within = a.0 in (
         record {
           count = refusal.at + 1;
           within = omega (arith, within);
-          led = subst (Leads new) a.1 l;
+          led = subst (IsReachable new) a.1 l;
           settled = inr (inr (refused.place.stops a.0));
         },
         (a.0, refused),
       )
 
-  pub told : (answer : Fed) → Feeds set holds limits new led bytes answer → Told answer
-  told fed.More f = told_more f.0 f.1 f.2
-  told (fed.Done taken) f = told_done taken f.0 f.1 f.2
-  told (fed.Refused refusal) f = told_refused refusal f.0 f.1 f.2
+  pub reported : (answer : Fed) → Feeds set holds limits new led bytes answer → Reported answer
+  reported fed.More f = reported_more f.0 f.1 f.2
+  reported (fed.Done taken) f = reported_done taken f.0 f.1 f.2
+  reported (fed.Refused refusal) f = reported_refused refusal f.0 f.1 f.2
 
 -- what a checker answers, and that it was fed them
-pub checker_told : OneMeaning → {L : Type 0} {language : Ghosts L} (old new : Checker L language) (bytes : List ℕ) (answer : Fed) → new.limits ≡ old.limits
-    → WhateverLed (CheckerReached old) (λ front given point. Feeds language.payloads language.reasons old.limits (CheckerReached new) front bytes answer)
+pub checker_reported : OneMeaning → {L : Type 0} {language : Ghosts L} (old new : Checker L language) (bytes : List ℕ) (answer : Fed) → new.limits ≡ old.limits
+    → ForEachInput (CheckerReached old) (λ front given point. Feeds language.payloads language.reasons old.limits (CheckerReached new) front bytes answer)
     → (limits : LimitValues) (front : List ℕ) → WasFed old limits front
     → WasFed new limits (front ++ bytes) × Tells language.payloads language.reasons limits (front ++ bytes) (length front) answer
-checker_told meaning {language = language} old new bytes answer same feeds limits front h =
+checker_reported meaning {language = language} old new bytes answer same feeds limits front h =
     let g = h.1 in
     let f = subst (λ l. Feeds language.payloads language.reasons l (CheckerReached new) (take g.count front) bytes answer) h.0 (feeds (take g.count front) g.led.0 g.led.1 g.led.2) in
-    let x = told meaning language.reasons (CheckerReached new) bytes g answer f in
+    let x = reported meaning language.reasons (CheckerReached new) bytes g answer f in
     ((same ∙ h.0, x.0), x.1)
 
 -- before the first byte
@@ -200,9 +200,9 @@ module _ {Point : Type 0} {set : Sets} {limits : LimitValues} {reached : Fronts 
   come = length-take-le g.count bytes g.within
 
   -- .. where the input ends
-  pub told_end : (holds : Conditions) (result : Result ⊤ Refusal) → Ends set holds limits (take g.count bytes) result → TellsEnd set holds limits bytes result
-  told_end holds (Ok done) d = (g.count, (g.within, d))
-  told_end holds (Err refusal) r = by_place (order refusal.at g.count)
+  pub reported_end : (holds : Conditions) (result : Result ⊤ Refusal) → Ends set holds limits (take g.count bytes) result → TellsEnd set holds limits bytes result
+  reported_end holds (Ok done) d = (g.count, (g.within, d))
+  reported_end holds (Err refusal) r = by_place (order refusal.at g.count)
     where
       by_place : (refusal.at < g.count) ⊎ (g.count ≤ refusal.at) → Refuses set holds limits bytes refusal
       by_place (inl h) =
@@ -219,8 +219,8 @@ module _ {Point : Type 0} {set : Sets} {limits : LimitValues} {reached : Fronts 
           ]
 
   -- .. of the most of them that can be completed
-  pub told_longest : OneMeaning → (count : ℕ) → IsLongestViable set limits (take g.count bytes) count → IsLongestViable set limits bytes count
-  told_longest meaning count a =
+  pub reported_longest : OneMeaning → (count : ℕ) → IsLongestViable set limits (take g.count bytes) count → IsLongestViable set limits bytes count
+  reported_longest meaning count a =
       let w = a.within in
       let v = g.within in
       let viable : IsViable set limits (take count bytes) = subst (IsViable set limits) (take-take count g.count bytes (omega (arith, come))) a.viable in
@@ -234,7 +234,7 @@ module _ {Point : Type 0} {set : Sets} {limits : LimitValues} {reached : Fronts 
           elim g.settled as (λ _. ¬ IsViable set limits (take (count + 1) bytes)) [
             | inl e ↦ absurd (omega (arith, same))
             | inr s ↦ elim s as (λ _. ¬ IsViable set limits (take (count + 1) bytes)) [
-              | inl d ↦ λ v. none_behind meaning set limits bytes g.count (count + 1) (omega (arith, same)) (omega (arith, h)) d v
+              | inl d ↦ λ v. none_after meaning set limits bytes g.count (count + 1) (omega (arith, same)) (omega (arith, h)) d v
               | inr n ↦ absurd (n (subst (λ m. IsViable set limits (take m bytes)) same viable))
             ]
           ]
@@ -254,9 +254,9 @@ longest_taken set limits front taken t =
     }
 
 -- that number of records ends
-pub told_records : (laws : FormatLaws) {L : Type 0} {language : Ghosts L} (c : Checker L language) (records : ℕ) → WhateverLed (CheckerReached c) (λ front given point. records ≡ length given)
+pub reported_records : (laws : FormatLaws) {L : Type 0} {language : Ghosts L} (c : Checker L language) (records : ℕ) → ForEachInput (CheckerReached c) (λ front given point. records ≡ length given)
     → (limits : LimitValues) (bytes : List ℕ) → WasFed c limits bytes → CountsRecords language.payloads limits bytes records
-told_records laws {language = language} c records counts limits bytes h =
+reported_records laws {language = language} c records counts limits bytes h =
     let g = h.1 in
     let front = take g.count bytes in
     let k : HasLed language.payloads limits front g.led.0 = subst (λ l. HasLed language.payloads l front g.led.0) h.0 (checker_led laws.counted c front g.led.0 g.led.1 g.led.2) in
@@ -266,7 +266,7 @@ told_records laws {language = language} c records counts limits bytes h =
     sym (take-take (length k.taken) g.count bytes (omega (arith, length-take-le g.count bytes g.within))) ∙ ap (take (length k.taken)) k.accepted.split ∙ take-append_seam k.taken k.accepted.refused in
     record {
       place = length k.taken;
-      longest = told_longest g laws.meaning (length k.taken) longest;
+      longest = reported_longest g laws.meaning (length k.taken) longest;
       runs = k.runs;
       begun = k.begun;
       field = k.field;
@@ -275,7 +275,7 @@ told_records laws {language = language} c records counts limits bytes h =
     }
 
 -- `records` is the number of records of a message at the front
-module _ (laws : FormatLaws) {L : Type 0} {language : Ghosts L} (c : Checker L language) (range : AreInRange c.limits) (records : ℕ) (counts : WhateverLed (CheckerReached c) (λ front given point. records ≡ length given)) where
+module _ (laws : FormatLaws) {L : Type 0} {language : Ghosts L} (c : Checker L language) (range : AreInRange c.limits) (records : ℕ) (counts : ForEachInput (CheckerReached c) (λ front given point. records ≡ length given)) where
   -- .. where the bytes led there
   whole_led : (front : List ℕ) (given : List Item) (point : Point) → CheckerReached c front given point → (items : List Item) (count : ℕ) → count ≤ length front → Accepted language.payloads c.limits items (take count front)
       → records ≡ length items
@@ -288,7 +288,7 @@ module _ (laws : FormatLaws) {L : Type 0} {language : Ghosts L} (c : Checker L l
       by_side (inl s) = by_count (order count (length front))
         where
           by_count : (count < length front) ⊎ (length front ≤ count) → records ≡ length items
-          by_count (inl less) = absurd (none_behind laws.meaning set c.limits front count (length front) less (omega arith) (items, d) (subst (IsViable set c.limits) (sym (take_all (length front) front (omega arith))) s.viable))
+          by_count (inl less) = absurd (none_after laws.meaning set c.limits front count (length front) less (omega arith) (items, d) (subst (IsViable set c.limits) (sym (take_all (length front) front (omega arith))) s.viable))
           by_count (inr enough) =
               let e = take_all count front enough in
               let own = subst (Accepted set c.limits items) e d in
@@ -299,8 +299,8 @@ module _ (laws : FormatLaws) {L : Type 0} {language : Ghosts L} (c : Checker L l
           let r = refuses laws range front [] given point s in
           absurd (no_prefix_is_deep laws.meaning set c.limits front s.refusal.at count (subst (λ x. Refuses set language.reasons c.limits x s.refusal) (append-nil front) r.1).place (items, d))
 
-  pub told_message : (limits : LimitValues) (bytes : List ℕ) → WasFed c limits bytes → CountsMessage language.payloads limits bytes records
-  told_message limits bytes h items count within d =
+  pub reported_message : (limits : LimitValues) (bytes : List ℕ) → WasFed c limits bytes → CountsMessage language.payloads limits bytes records
+  reported_message limits bytes h items count within d =
       let g = h.1 in
       let own = subst (λ l. Accepted language.payloads l items (take count bytes)) (sym h.0) d in
       by_count own (order g.count count)
@@ -346,7 +346,7 @@ messages_longest meaning set limits bytes count place h a =
     elim (order place count) as (λ v. place ≡ count) [
       | inl k ↦ absurd (let w = h.0 in a.most (omega arith) (viable_shorter set limits (place + 1) count bytes (omega arith) (deep_viable set limits (take count bytes) h.1)))
       | inr k ↦ elim (order count place) as (λ v. place ≡ count) [
-        | inl less ↦ absurd (none_behind meaning set limits bytes count place less a.within h.1 a.viable)
+        | inl less ↦ absurd (none_after meaning set limits bytes count place less a.within h.1 a.viable)
         | inr more ↦ omega arith
       ]
     ]

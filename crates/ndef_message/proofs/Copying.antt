@@ -9,21 +9,21 @@ use Rattle.ndef_format.specs.Records.{Piece, HeadFields, AreOctets, fields, octe
 use Rattle.ndef_format.specs.Limits.{AreInRange}
 use Rattle.ndef_lang.specs.declared.record_language.RecordLanguage.{Ghosts}
 use Rattle.ndef_format.specs.HeadReasons.{is_set}
-use Rattle.ndef_format.specs.Positions.{MayStand}
+use Rattle.ndef_format.specs.Positions.{MayOccur}
 use Rattle.ndef_format.specs.Positions as pieces
 use Rattle.ndef_piece.specs.Walk.{start, spot, Walked}
 use Rattle.ndef_piece.specs.Whole.{shown}
 use Rattle.ndef_piece.specs.declared.whole.WholePiece.{WholePiece}
 use Rattle.ndef_message.specs.Decoding.{EndsThere, Wants}
 use Rattle.ndef_format.specs.Accepted.{IsViable}
-use Rattle.ndef_message.specs.Machine.Fronts.{WhateverLed}
+use Rattle.ndef_message.specs.Machine.Fronts.{ForEachInput}
 use Rattle.ndef_message.specs.Machine.Points.{Point, field_of, IsAtPoint, InType, InId, InPayload, before, octets_at, IsPartAt, IsProperAt, opened_at, IsBetweenRecords}
-use Rattle.ndef_message.specs.Machine.Accepted.{BeginsWith, IsFresh, LeadsBetween, record_of}
+use Rattle.ndef_message.specs.Machine.Accepted.{BeginsWith, IsFresh, IsReachableBetween, record_of}
 use Rattle.ndef_message.specs.Machine.Checkers.{CheckerReached}
-use Rattle.ndef_message.specs.Machine.DecoderState.{DecoderKnows}
+use Rattle.ndef_message.specs.Machine.DecoderState.{DecoderMatchesInput}
 use Rattle.ndef_message.specs.Machine.Format.{FormatLaws}
 use Rattle.ndef_message.specs.Machine.Open.{AsksMemory}
-use Rattle.ndef_message.specs.Machine.State.{answer_of, is_done, spot_of, Stands, Reached}
+use Rattle.ndef_message.specs.Machine.State.{answer_of, is_done, spot_of, IsConsistentAt, Reached}
 use Rattle.ndef_message.specs.Opened.{Opened, opened_head, no_octets, MayGrow, AreRecords}
 use Rattle.ndef_message.specs.declared.checker.Checker.{Checker}
 use Rattle.ndef_message.specs.declared.phase.Phase.TheVariants as phases
@@ -64,8 +64,8 @@ done_by false = refl
 module _ (laws : FormatLaws) {L : Type 0} {language : Ghosts L} (old new : Checker L language) (same : new.limits ≡ old.limits) (range : AreInRange old.limits)
     {failed : Option ℕ} (unfailed : failed ≡ None) (o : Opened) (input : List ℕ) (w : WholePiece) (fresh : IsFresh old.state) (begins : BeginsWith language.payloads old.limits old.state.place input w)
     (phase_is : new.state.phase ≡ (if is_set 6 w.header then phases.Done else phases.Head))
-    (onward : WhateverLed (CheckerReached old) (λ front given point. LeadsBetween (CheckerReached new) (front ++ take (length input - length w.rest.now) input) (given ++ record_of w ∷ [])))
-    (bytes : List ℕ) (given : List Item) (point : Point) (was : DecoderKnows old failed o bytes given point) where
+    (onward : ForEachInput (CheckerReached old) (λ front given point. IsReachableBetween (CheckerReached new) (front ++ take (length input - length w.rest.now) input) (given ++ record_of w ∷ [])))
+    (bytes : List ℕ) (given : List Item) (point : Point) (was : DecoderMatchesInput old failed o bytes given point) where
   abbrev p : Piece
   p = shown w
 
@@ -73,19 +73,19 @@ module _ (laws : FormatLaws) {L : Type 0} {language : Ghosts L} (old new : Check
   t = take (length input - length w.rest.now) input
 
   known : CheckerReached old bytes given point × (o ≡ opened_at point)
-  known = subst (λ z. DecoderKnows old z o bytes given point) unfailed was
+  known = subst (λ z. DecoderMatchesInput old z o bytes given point) unfailed was
 
   stood : AtBetween language old.limits old.state bytes given point
   stood = between language old.limits old.state bytes given point fresh (going language old.limits old.state 0 bytes given point (ap (λ p. answer_of p 0) fresh.phase_is) known.0.1)
 
-  led : LeadsBetween (CheckerReached new) (bytes ++ t) (given ++ record_of w ∷ [])
+  led : IsReachableBetween (CheckerReached new) (bytes ++ t) (given ++ record_of w ∷ [])
   led = onward bytes given point known.0
 
-  stands : Stands language new.limits new.state (bytes ++ t) (given ++ record_of w ∷ []) led.0
+  stands : IsConsistentAt language new.limits new.state (bytes ++ t) (given ++ record_of w ∷ []) led.0
   stands = by_side (is_set 6 w.header) phase_is led.2.1
     where
       by_side : (last : Bool) → new.state.phase ≡ (if last then phases.Done else phases.Head) → Reached language new.limits new.state (bytes ++ t) (given ++ record_of w ∷ []) led.0
-          → Stands language new.limits new.state (bytes ++ t) (given ++ record_of w ∷ []) led.0
+          → IsConsistentAt language new.limits new.state (bytes ++ t) (given ++ record_of w ∷ []) led.0
       by_side last e (inl s) = s
       by_side true e (inr s) = absurd (let q = sym e ∙ s.phase_is in cc)
       by_side false e (inr s) = absurd (let q = sym e ∙ s.phase_is in cc)
@@ -95,14 +95,14 @@ module _ (laws : FormatLaws) {L : Type 0} {language : Ghosts L} (old new : Check
 
   -- the record has come
   pub whole_passed : {item : Item} → item ≡ record_of w → {last : Bool} → last ≡ is_set 6 w.header → EndsThere language.payloads old.limits (bytes ++ t) (given ++ item ∷ []) last
-      × AreRecords old.limits (bytes ++ t) (given ++ item ∷ []) × ((next : Point) × DecoderKnows new failed o (bytes ++ t) (given ++ item ∷ []) next)
+      × AreRecords old.limits (bytes ++ t) (given ++ item ∷ []) × ((next : Point) × DecoderMatchesInput new failed o (bytes ++ t) (given ++ item ∷ []) next)
   whole_passed {item} is {last} e =
       let ends = ends_there laws language new.limits (subst AreInRange (sym same) range) new.state (bytes ++ t) (given ++ record_of w ∷ []) led.0 stands last (ap is_done phase_is ∙ done_by (is_set 6 w.header) ∙ sym e) in
       subst (λ z. EndsThere language.payloads old.limits (bytes ++ t) (given ++ z ∷ []) last
-      × AreRecords old.limits (bytes ++ t) (given ++ z ∷ []) × ((next : Point) × DecoderKnows new failed o (bytes ++ t) (given ++ z ∷ []) next)) (sym is) (
+      × AreRecords old.limits (bytes ++ t) (given ++ z ∷ []) × ((next : Point) × DecoderMatchesInput new failed o (bytes ++ t) (given ++ z ∷ []) next)) (sym is) (
         subst (λ l. EndsThere language.payloads l (bytes ++ t) (given ++ record_of w ∷ []) last) same ends,
         subst (λ l. AreRecords l (bytes ++ t) (given ++ record_of w ∷ [])) same (records_there laws.counted new.limits (bytes ++ t) (given ++ record_of w ∷ []) led.0 led.1 stands.at),
-        (led.0, subst (λ z. DecoderKnows new z o (bytes ++ t) (given ++ record_of w ∷ []) led.0) (sym unfailed) (led.2, none_open)),
+        (led.0, subst (λ z. DecoderMatchesInput new z o (bytes ++ t) (given ++ record_of w ∷ []) led.0) (sym unfailed) (led.2, none_open)),
       )
 
   -- ---- memory was refused for a copy
@@ -113,13 +113,13 @@ module _ (laws : FormatLaws) {L : Type 0} {language : Ghosts L} (old new : Check
   front_is : t ≡ octets f ++ body p
   front_is = (front_of input begins.split.front w.rest.now (length input - length w.rest.now) begins.split.joined refl).1 ∙ begins.split.spells.spelled
 
-  may_stand : MayStand (spot old.limits.profile stood.c) f
-  may_stand =
+  may_occur : MayOccur (spot old.limits.profile stood.c) f
+  may_occur =
       let s = begins.split.spells in
-      (laws.to_heads (spot old.limits.profile stood.c) p (is_set 4 w.header) s.piece s.form).0 (subst (λ x. pieces.Stands (spot_of old.limits.profile x) p) stood.place_is begins.stands)
+      (laws.to_heads (spot old.limits.profile stood.c) p (is_set 4 w.header) s.piece s.form).0 (subst (λ x. pieces.IsConsistentAt (spot_of old.limits.profile x) p) stood.place_is begins.stands)
 
   part : (k i z : List ℕ) → AreOctets k → AreOctets i → AreOctets z → IsPartAt old.limits stood.c f k i z
-  part k i z a b d = record { goes_on = stood.over; stands = may_stand; kind_octets = a; id_octets = b; payload_octets = d }
+  part k i z a b d = record { goes_on = stood.over; stands = may_occur; kind_octets = a; id_octets = b; payload_octets = d }
 
   -- at the field of one of its bytes
   wants_at : (point' : Point) (more : List ℕ) → before point' ≡ stood.c → t ≡ octets_at point' ++ more → 0 < length more → IsProperAt old.limits point' → MayGrow (field_of point') → Wants language.payloads old.limits bytes given t

@@ -9,8 +9,8 @@ use Rattle.ndef_message.specs.Machine.Checkers.{CheckerReached}
 use Rattle.ndef_format.specs.Accepted.{IsAccepted, IsViable}
 use Rattle.ndef_message.specs.Machine.Points.{Point, IsAtPoint}
 use Rattle.ndef_message.specs.Machine.Moves.{point_with}
-use Rattle.ndef_message.specs.Machine.Fronts.{SomeLed, Fronts, WhateverLed, Leads, Feeds}
-use Rattle.ndef_message.specs.Machine.State.{answer_of, Matches, Stands, Reached, Onward, Knows}
+use Rattle.ndef_message.specs.Machine.Fronts.{SomeLed, Fronts, ForEachInput, IsReachable, Feeds}
+use Rattle.ndef_message.specs.Machine.State.{answer_of, Matches, IsConsistentAt, Reached, Onward, MatchesInput}
 use Rattle.ndef_message.specs.Machine.Format.{FormatLaws}
 use Rattle.ndef_format.specs.Refusals.{Refuses}
 use Rattle.ndef_message.specs.declared.checker.Checker.{Checker}
@@ -25,18 +25,18 @@ use Rattle.ndef_message.proofs.Ended.{viable_bounded, greatest_small, unended, e
 module _ {L : Type 0} (language : Ghosts L) (limits : LimitValues) (state : State L) where
   -- where no answer is due nothing was refused
   pub going : (taken : ℕ) (bytes : List ℕ) (given : List Item) (point : Point) → answer_of state.phase taken ≡ None → Reached language limits state bytes given point
-      → Stands language limits state bytes given point
+      → IsConsistentAt language limits state bytes given point
   going taken bytes given point e (inl s) = s
   going taken bytes given point e (inr s) = absurd (let q = sym e ∙ ap (λ p. answer_of p taken) s.phase_is in cc)
 
   pub not_done : (taken : ℕ) → answer_of state.phase taken ≡ None → state.phase ≢ phases.Done
   not_done taken e d = let q = sym e ∙ ap (λ p. answer_of p taken) d in cc
 
-  pub some_led : (taken : ℕ) → answer_of state.phase 0 ≡ None → SomeLed (Knows language limits state taken) → SomeLed (Stands language limits state)
+  pub some_led : (taken : ℕ) → answer_of state.phase 0 ≡ None → SomeLed (MatchesInput language limits state taken) → SomeLed (IsConsistentAt language limits state)
   some_led taken e w = (w.0, w.1, w.2, going 0 w.0 w.1 w.2 e w.3.1)
 
   -- what was taken is bounded
-  pub taken_small : FormatLaws → AreInRange limits → (taken : ℕ) → answer_of state.phase 0 ≡ None → SomeLed (Knows language limits state taken) → taken + 1 ≤ 2 ^ 60
+  pub taken_small : FormatLaws → AreInRange limits → (taken : ℕ) → answer_of state.phase 0 ≡ None → SomeLed (MatchesInput language limits state taken) → taken + 1 ≤ 2 ^ 60
   taken_small laws range taken e w =
       let s = going 0 w.0 w.1 w.2 e w.3.1 in
       let n = viable_bounded laws language.payloads limits w.0 s.viable in
@@ -45,18 +45,18 @@ module _ {L : Type 0} (language : Ghosts L) (limits : LimitValues) (state : Stat
       omega arith
 
   -- the bytes lead on
-  pub knows_on : (bytes : List ℕ) (given : List Item) (point : Point) (t : List ℕ) (taken : ℕ) → taken ≡ length (bytes ++ t) → Onward language limits state bytes given point t
-      → Leads (Knows language limits state taken) (bytes ++ t)
-  knows_on bytes given point t taken e (inl w) = (w.0, w.1, (e, inl w.3))
-  knows_on bytes given point t taken e (inr w) = (given, point_with point w.0, (e, inr w.3))
+  pub matches_input_on : (bytes : List ℕ) (given : List Item) (point : Point) (t : List ℕ) (taken : ℕ) → taken ≡ length (bytes ++ t) → Onward language limits state bytes given point t
+      → IsReachable (MatchesInput language limits state taken) (bytes ++ t)
+  matches_input_on bytes given point t taken e (inl w) = (w.0, w.1, (e, inl w.3))
+  matches_input_on bytes given point t taken e (inr w) = (given, point_with point w.0, (e, inr w.3))
 
 -- what led to the old fields leads, with the first of these bytes, to the new ones
 abbrev pub Sofar : Fronts Point → Fronts Point → List ℕ → ℕ → Type 0
-Sofar old new bytes at = WhateverLed old (λ front given point. Leads new (front ++ take at bytes))
+Sofar old new bytes at = ForEachInput old (λ front given point. IsReachable new (front ++ take at bytes))
 
 -- what led to this front leads, with the first of these bytes, to the new fields
 abbrev pub Here : Fronts Point → (front bytes : List ℕ) → ℕ → Type 0
-Here new front bytes at = Leads new (front ++ take at bytes)
+Here new front bytes at = IsReachable new (front ++ take at bytes)
 
 pub sofar_start : (old : Fronts Point) (bytes : List ℕ) → Sofar old old bytes 0
 sofar_start old bytes front given point x = (given, point, subst (λ y. old y given point) (sym (append-nil front)) x)
@@ -66,10 +66,10 @@ pub some_more : (front bytes : List ℕ) (at n : ℕ) → (front ++ take at byte
 some_more front bytes at n = append_assoc front (take at bytes) (take n (rest bytes at)) ∙ ap (λ y. front ++ y) (take_rests bytes at n)
 
 pub sofar_some : (old mid new : Fronts Point) (bytes : List ℕ) (at n : ℕ) → Sofar old mid bytes at
-    → WhateverLed mid (λ front given point. Leads new (front ++ take n (rest bytes at))) → Sofar old new bytes (at + n)
+    → ForEachInput mid (λ front given point. IsReachable new (front ++ take n (rest bytes at))) → Sofar old new bytes (at + n)
 sofar_some old mid new bytes at n s f front given point x =
     let w = s front given point x in
-    subst (Leads new) (some_more front bytes at n) (f (front ++ take at bytes) w.0 w.1 w.2)
+    subst (IsReachable new) (some_more front bytes at n) (f (front ++ take at bytes) w.0 w.1 w.2)
 
 module _ (laws : FormatLaws) {L : Type 0} {language : Ghosts L} (c : Checker L language) (range : AreInRange c.limits) where
   feeds_here : (phase : Phase) → c.state.phase ≡ phase → (front bytes : List ℕ) (given : List Item) (point : Point) (at : ℕ) (answer : Fed) → answer_of phase at ≡ Some answer → at ≤ length bytes
@@ -102,12 +102,12 @@ module _ (laws : FormatLaws) {L : Type 0} {language : Ghosts L} (c : Checker L l
           (r2.0, r2.1, (given, point, subst (λ y. CheckerReached c y given point) r2.2 k))
 
   module _ (limits : LimitValues) (same : c.limits ≡ limits) (front bytes : List ℕ) (at : ℕ) where
-    pub feeds_answer : (answer : Fed) → answer_of c.state.phase at ≡ Some answer → at ≤ length bytes → Leads (CheckerReached c) (front ++ take at bytes)
+    pub feeds_answer : (answer : Fed) → answer_of c.state.phase at ≡ Some answer → at ≤ length bytes → IsReachable (CheckerReached c) (front ++ take at bytes)
         → Feeds language.payloads language.reasons limits (CheckerReached c) front bytes answer
     feeds_answer answer e h k =
         subst (λ l. Feeds language.payloads language.reasons l (CheckerReached c) front bytes answer) same (feeds_here c.state.phase refl front bytes k.0 k.1 at answer e h k.2)
 
-    pub feeds_more : answer_of c.state.phase at ≡ None → at ≡ length bytes → Leads (CheckerReached c) (front ++ take at bytes)
+    pub feeds_more : answer_of c.state.phase at ≡ None → at ≡ length bytes → IsReachable (CheckerReached c) (front ++ take at bytes)
         → Feeds language.payloads language.reasons limits (CheckerReached c) front bytes fed.More
     feeds_more e h k =
         let all : front ++ take at bytes ≡ front ++ bytes = ap (λ y. front ++ y) (take_all at bytes (omega arith)) in
@@ -117,7 +117,7 @@ module _ (laws : FormatLaws) {L : Type 0} {language : Ghosts L} (c : Checker L l
         let m = subst (Matches language c.limits c.state) u.1 s.matches in
         not_done language c.limits c.state at e m.1 in
         subst (λ l. Feeds language.payloads language.reasons l (CheckerReached c) front bytes fed.More) same
-        (subst (IsViable language.payloads c.limits) all s.viable, no, subst (Leads (CheckerReached c)) all k)
+        (subst (IsViable language.payloads c.limits) all s.viable, no, subst (IsReachable (CheckerReached c)) all k)
 
 -- ---- the first byte
 pub take_one : (xs : List ℕ) → 0 < length xs → take 1 xs ≡ get_or xs 0 0 ∷ []

@@ -48,13 +48,13 @@ pub first_refused : (laws : FormatLaws) {L : Type 0} (language : Ghosts L) (limi
     → (b : ℕ) (rest : List ℕ) (reason : Reason) → b < 256 → IsOpen (spot limits.profile (start limits)) []
     → reason_for (spot limits.profile (start limits)) [] b ≡ Some reason
     → Refuses language.payloads language.reasons limits (b ∷ rest) (record { at = 0; reason = reason })
-first_refused laws language limits range octets_of others b rest reason small some_head told =
+first_refused laws language limits range octets_of others b rest reason small some_head reported =
     let s = start_stands laws {language = kept_none language} limits range others (at_start limits) refl refl refl some_head in
     let a = octets.at_head {language = kept_none language} {limits = limits} {state = at_start limits} (start_point limits) refl s in
     let refusal : Refusal = record { at = 0; reason = reason } in
     let t : Stopped (kept_none language) limits (record (at_start limits) { phase = phases.Refused refusal }) (b ∷ []) [] (start_point limits) =
     heads.refused laws {language = kept_none language} {limits = limits} range octets_of others a b (at_start limits).reader
-    (λ e. (λ v. (let k = (laws.exact (spot limits.profile (start limits)) [] b small some_head).1 v in let q = sym k ∙ told in cc), told)) refl in
+    (λ e. (λ v. (let k = (laws.exact (spot limits.profile (start limits)) [] b small some_head).1 v in let q = sym k ∙ reported in cc), reported)) refl in
     let same : t.refusal ≡ refusal = (let q = sym t.phase_is in cc) in
     let w = refuses laws {language = kept_none language} range (b ∷ []) rest [] (start_point limits) t in
     subst (Refuses language.payloads language.reasons limits (b ∷ rest)) same w.1

@@ -1,4 +1,4 @@
--- Where payloads aren't looked into, octets are refused in heads alone.
+-- If payloads aren't validated, octets are refused in heads alone.
 use Rattle.std.proofs.Common.{◌≡◌, ℕ, ◌-◌, ◌<◌, ◌≤◌, ◌^◌, ◌⊎◌, ◌↔◌, inl, inr, Bool, true, false, refl, sym, ◌∙◌, ap, subst, arith, List, [], ◌∷◌, ◌++◌, length, map, take, get_or, append_assoc, length-append, Option, Some, None, zero, suc}
 use Rattle.std.specs.Prelude.{unwrap_or, is_some, slice_index, ⊤, if◌then◌else◌}
 use Rattle.std.specs.List.{AllByRecursion}

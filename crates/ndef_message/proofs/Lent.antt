@@ -1,4 +1,4 @@
--- What a `fill` says of its source after the borrow, and the less that its trait asks.
+-- The contract of a `fill` about its source after the borrow, and the weaker one of its trait.
 use Rattle.std.specs.Prelude.{⊤}
 use seplogic.Ra.Ura.{Ura}
 use mathlib.Core.List.{[]}

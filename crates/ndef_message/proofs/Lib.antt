@@ -53,6 +53,6 @@ pub mod Slices
 pub mod Somewhere
 pub mod Starts
 pub mod Taking
-pub mod Told
+pub mod Reported
 pub mod Viable
 pub mod WrittenRuns

@@ -13,15 +13,15 @@ use Rattle.ndef_format.specs.Refusals.{Refuses}
 use Rattle.ndef_format.specs.declared.refusal.Refusal.{Refusal}
 use Rattle.ndef_message.specs.Decoding.{Wants}
 use Rattle.ndef_message.specs.Readings.{EndsRecord, FirstByteNeedsNone, GrowsAt, NeedsMemoryBefore, MemoryIsNeededBefore}
-use Rattle.ndef_message.proofs.ReadingOn.{refused_behind}
+use Rattle.ndef_message.proofs.ReadingOn.{refused_after}
 
 -- what is viable ends at the refused byte
 refused_longest : (set : Sets) (holds : Conditions) (limits : LimitValues) (input : List ℕ) (refusal : Refusal) → Refuses set holds limits input refusal
     → (n : ℕ) → n ≤ length input → IsViable set limits (take n input) → n ≤ refusal.at
 refused_longest set holds limits input refusal r n h v =
     let e : input ≡ take n input ++ drop n input = sym (take-append-drop n input) in
-    let behind = refused_behind set holds limits (take n input) (drop n input) refusal (subst (λ x. Refuses set holds limits x refusal) e r) v in
-    omega (arith, behind, length-take-le n input h)
+    let following = refused_after set holds limits (take n input) (drop n input) refusal (subst (λ x. Refuses set holds limits x refusal) e r) v in
+    omega (arith, following, length-take-le n input h)
 
 pub memory_is_needed_before : (set : Sets) (holds : Conditions) → MemoryIsNeededBefore set holds
 memory_is_needed_before set holds limits input bytes refusal r w = by_front w.front
@@ -40,7 +40,7 @@ memory_is_needed_before set holds limits input bytes refusal r w = by_front w.fr
           count = length bytes;
           given = w.given;
           needs = inl (
-            refused_behind set holds limits bytes (w.shown ++ rest) refusal (subst (λ x. Refuses set holds limits x refusal) whole r) e.1,
+            refused_after set holds limits bytes (w.shown ++ rest) refusal (subst (λ x. Refuses set holds limits x refusal) whole r) e.1,
             subst (λ x. EndsRecord set limits x w.given) (sym front) e,
           );
         }
@@ -51,13 +51,13 @@ memory_is_needed_before set holds limits input bytes refusal r w = by_front w.fr
             λ k h. ap (take (length bytes + k)) whole ∙ take-append-add bytes (w.shown ++ rest) k ∙ ap (λ x. bytes ++ x) (take-append-le k w.shown rest h) in
             let seen = bytes ++ take (n + 1) w.shown in
             let seen_length : length seen ≡ length bytes + (n + 1) = (let a = length-append bytes (take (n + 1) w.shown) in let b = length-take-le (n + 1) w.shown some in omega arith) in
-            let behind = refused_longest set holds limits input refusal r (length bytes + (n + 1)) (let t = ap length whole in let u = length-append bytes (w.shown ++ rest) in let v = length-append w.shown rest in omega arith)
+            let following = refused_longest set holds limits input refusal r (length bytes + (n + 1)) (let t = ap length whole in let u = length-append bytes (w.shown ++ rest) in let v = length-append w.shown rest in omega arith)
             (subst (IsViable set limits) (sym (upto (n + 1) some)) g.viable) in
             record {
               count = length bytes + n;
               given = w.given;
               needs = inr (
-                omega (arith, behind),
+                omega (arith, following),
                 (g.runs, g.begun, g.field, g.means, subst (λ x. IsAt limits x g.runs g.begun g.field) (sym (upto n (let h = g.within in omega arith))) g.at, g.grows),
               );
             }

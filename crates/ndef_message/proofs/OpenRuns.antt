@@ -14,12 +14,12 @@ use Rattle.ndef_format.specs.Positions.{IsOpen}
 use Rattle.ndef_piece.specs.Walk.{Before, start, record_with, inside, Walked}
 use Rattle.ndef_piece.specs.declared.head_reader.Step.TheVariants as steps
 use Rattle.ndef_format.specs.Accepted.{IsMember, IsViable}
-use Rattle.ndef_message.specs.Machine.Fronts.{Leads, WhateverLed}
-use Rattle.ndef_message.specs.Machine.Accepted.{AreChunks, RunGoesOn, IsAtChunk, IsBehindChunks, with_payload}
+use Rattle.ndef_message.specs.Machine.Fronts.{IsReachable, ForEachInput}
+use Rattle.ndef_message.specs.Machine.Accepted.{AreChunks, RunGoesOn, IsAtChunk, IsAfterChunks, with_payload}
 use Rattle.ndef_message.specs.Machine.Format.{FormatLaws}
 use Rattle.ndef_message.specs.Machine.Payload.{completes}
 use Rattle.ndef_message.specs.Machine.Points.{Point, InHead, IsAtPoint}
-use Rattle.ndef_message.specs.Machine.State.{numbers, spot_of, Speaks, SpeaksIf, Stands}
+use Rattle.ndef_message.specs.Machine.State.{numbers, spot_of, Speaks, SpeaksIf, IsConsistentAt}
 use Rattle.ndef_message.specs.declared.phase.Place.{Place}
 use Rattle.ndef_message.specs.declared.state.State.{State}
 use Rattle.ndef_message.proofs.Accepting.{front_of, spelled_one, walked_append}
@@ -98,7 +98,7 @@ module _ {L : Type 0} (language : Ghosts L) (limits : LimitValues) (range : AreI
     viable_is : IsViable language.payloads limits bytes
     speaks : Speaks language limits state.payload m
 
-  at_chunk : IsAtChunk language state → Stands language limits state bytes given point → AtChunk
+  at_chunk : IsAtChunk language state → IsConsistentAt language limits state bytes given point → AtChunk
   at_chunk fresh s = by_begun a.c.begun refl
     where
       a : AtHead language limits state bytes given point
@@ -124,10 +124,10 @@ module _ {L : Type 0} (language : Ghosts L) (limits : LimitValues) (range : AreI
           }
 
 -- the pieces lead after them
-pub chunks_lead : (laws : FormatLaws) {L : Type 0} (language : Ghosts L) (limits : LimitValues) → AreInRange limits → (old new : State L) (place : Place) (t : List ℕ)
-    → ((r : List ℕ) → language.future old.payload r → AreOctets r) → IsAtChunk language old → AreChunks limits old.place t place → IsBehindChunks limits old new place
-    → WhateverLed (Stands language limits old) (λ bytes given point. Leads (Stands language limits new) (bytes ++ t))
-chunks_lead laws language limits range old new place t octets_of fresh chunks behind bytes given point s =
+pub chunks_are_reachable : (laws : FormatLaws) {L : Type 0} (language : Ghosts L) (limits : LimitValues) → AreInRange limits → (old new : State L) (place : Place) (t : List ℕ)
+    → ((r : List ℕ) → language.future old.payload r → AreOctets r) → IsAtChunk language old → AreChunks limits old.place t place → IsAfterChunks limits old new place
+    → ForEachInput (IsConsistentAt language limits old) (λ bytes given point. IsReachable (IsConsistentAt language limits new) (bytes ++ t))
+chunks_are_reachable laws language limits range old new place t octets_of fresh chunks following bytes given point s =
     let a = at_chunk language limits range old bytes given point fresh s in
     let g = chunks a.records a.pieces a.room a.m a.place_is in
     let c = inside a.records a.pieces a.room a.m in
@@ -143,12 +143,12 @@ chunks_lead laws language limits range old new place t octets_of fresh chunks be
     let room = (good_at limits range ps d given w).room in
     let most = range.payload.1 in
     let finished = finished_inside laws language.payloads limits a.records g.pieces_left g.room_left m (omega arith) ((speaks.future []).0 (fresh.future [] tt)) in
-    let reader = behind.reader_is ∙ ap (λ x. record { spot = spot_of limits.profile x; octets = []; answer = steps.More }) g.place_is in (
+    let reader = following.reader_is ∙ ap (λ x. record { spot = spot_of limits.profile x; octets = []; answer = steps.More }) g.place_is in (
       given,
       InHead d [],
       record {
-        at = record { pieces = ps; done = done; walked = w; spelled = spelled; split = split; proper = (refl, subst (λ x. IsOpen (spot_of limits.profile x) []) g.place_is behind.opens) };
+        at = record { pieces = ps; done = done; walked = w; spelled = spelled; split = split; proper = (refl, subst (λ x. IsOpen (spot_of limits.profile x) []) g.place_is following.opens) };
         viable = subst (IsViable language.payloads limits) (sym split) (viable laws limits language.payloads range ps d given done w spelled [] members finished);
-        matches = (behind.place_is ∙ g.place_is, behind.phase_is ∙ fresh.phase_is, reader, subst (λ x. Speaks language limits x m) (sym behind.payload_is) speaks);
+        matches = (following.place_is ∙ g.place_is, following.phase_is ∙ fresh.phase_is, reader, subst (λ x. Speaks language limits x m) (sym following.payload_is) speaks);
       },
     )

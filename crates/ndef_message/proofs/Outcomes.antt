@@ -1,4 +1,4 @@
--- What is answered where there is a message.
+-- The answers if there is a message.
 use Rattle.std.specs.Prelude.{IfOk, Result, Ok, Err}
 use Rattle.ndef_format.specs.Limits.{LimitValues}
 use Rattle.ndef_format.specs.Payloads.{Sets}

@@ -6,7 +6,7 @@ use Rattle.ndef_format.specs.Limits.{LimitValues}
 use Rattle.ndef_format.specs.declared.reason.Reason.{Reason}
 use Rattle.ndef_format.specs.Reasons.{Conditions}
 use Rattle.ndef_format.specs.declared.spot.Spot.{Spot}
-use Rattle.ndef_format.specs.Positions.{IsOpen, MayStand, spot_after, IsAt, EndsAt, AreBefore, begun_record}
+use Rattle.ndef_format.specs.Positions.{IsOpen, MayOccur, spot_after, IsAt, EndsAt, AreBefore, begun_record}
 use Rattle.ndef_piece.specs.Walk.{Before, spot, standing, IsCounted, WalksAreCounted}
 use Rattle.ndef_format.specs.Positions as fields
 use Rattle.ndef_message.specs.Opened.{AreRecords}
@@ -31,7 +31,7 @@ same_octets (AtEnd c) = refl
 
 part_at : (limits : LimitValues) (place : Spot) (c : Before) (f : _) (kind id payload : List ℕ) → spot limits.profile c ≡ place → IsPartAt limits c f kind id payload → fields.IsPart place f kind id payload
 part_at limits place c f kind id payload e p =
-    record { stands = subst (λ x. MayStand x f) e p.stands; name_octets = p.kind_octets; id_octets = p.id_octets; content_octets = p.payload_octets }
+    record { stands = subst (λ x. MayOccur x f) e p.stands; name_octets = p.kind_octets; id_octets = p.id_octets; content_octets = p.payload_octets }
 
 proper_at : (limits : LimitValues) (place : Spot) (point : Point) → spot limits.profile (before point) ≡ place → IsProperAt limits point → fields.IsProper place (field_of point)
 proper_at limits place (InHead c xs) e p = subst (λ x. IsOpen x xs) e p.1
@@ -87,7 +87,7 @@ reason_at {limits} {point = point} p holds b reason h =
 -- ---- whole runs
 
 pub runs_alone : {limits : LimitValues} {runs : List Run} {begun : List Piece} → AreBefore limits runs begun → AreBefore limits runs []
-runs_alone b = record { whole = b.whole; going_on = tt; runs_stand = b.runs_stand; begun_stand = tt }
+runs_alone b = record { whole = b.whole; going_on = tt; runs_are_consistent = b.runs_are_consistent; begun_are_consistent = tt }
 
 none_begun : (begun : List Piece) → begun_record begun ≡ None → begun ≡ []
 none_begun [] e = refl

@@ -7,7 +7,7 @@ use Rattle.ndef_format.specs.Messages.{Item, SpellsPieces}
 use Rattle.ndef_format.specs.Records.{Piece, AreOctets, SpellsPiece, fields, octets, body}
 use Rattle.ndef_format.specs.Limits.{LimitValues, AreInRange}
 use Rattle.ndef_format.specs.Payloads.{Sets}
-use Rattle.ndef_format.specs.Positions.{Stands}
+use Rattle.ndef_format.specs.Positions.{IsConsistentAt}
 use Rattle.ndef_piece.specs.Walk.{Before, start, spot, ending_record, after, Walk, Walked}
 use Rattle.ndef_format.specs.Accepted.{IsViable}
 use Rattle.ndef_message.specs.Machine.Points.{Point, InHead, InType, InId, InPayload, AtEnd, before, octets_at, IsPartAt, IsProperAt, IsAtPoint}
@@ -25,7 +25,7 @@ module _ (laws : FormatLaws) (limits : LimitValues) where
   Within c xs = (point : Point) × (before point ≡ c) × (octets_at point ≡ xs) × IsProperAt limits point
 
   -- a front that ends in a piece
-  module _ (c : Before) (p : Piece) (short : Bool) (bytes : List ℕ) (open_still : c.over ≡ false) (stands : Stands (spot limits.profile c) p) (spells : SpellsPiece p short bytes) where
+  module _ (c : Before) (p : Piece) (short : Bool) (bytes : List ℕ) (open_still : c.over ≡ false) (stands : IsConsistentAt (spot limits.profile c) p) (spells : SpellsPiece p short bytes) where
     part : (kind id payload k i z : List ℕ) → p.kind ≡ kind ++ k → unwrap_or p.id [] ≡ id ++ i → p.payload ≡ payload ++ z → IsPartAt limits c (fields p short) kind id payload
     part kind id payload k i z a b d =
         let is = spells.piece in

@@ -1,4 +1,4 @@
--- What is known of a reader, of which some bytes are shown.
+-- The state of a reader, of which some bytes are shown.
 use Rattle.std.proofs.Common.{◌≡◌, ◌<◌, ◌≤◌, ℕ, ◌+◌, ◌-◌, Bool, true, false, cond, List, [], Option, Some, None, length, length-drop, length-take, take, drop, slice_range, option_map, refl, sym, ap, ◌∙◌, subst, arith}
 use Rattle.std.specs.Prelude.{IfSome, ◌||◌, not, nat_eq, nat_le}
 use Rattle.std.specs.Bool.{Decides}
@@ -112,8 +112,8 @@ pub settled : (r after : Option (List ℕ)) (limit : Option ℕ) (fresh : Bool) 
 settled r after limit fresh s p h = left_kept r after limit fresh s p (known_keeps _ after s h)
 
 -- where nothing is pending, what is left is what the reader has
-pub left_behind : (r : Option (List ℕ)) (limit : Option ℕ) (fresh : Bool) (s : List ℕ) (p : ℕ) → p ≡ 0 → Keeps (left_of r limit fresh s p) r
-left_behind r limit fresh s p none = settled r r limit fresh s p (Keeps-from _ r (λ ys e.
+pub left_after : (r : Option (List ℕ)) (limit : Option ℕ) (fresh : Bool) (s : List ℕ) (p : ℕ) → p ≡ 0 → Keeps (left_of r limit fresh s p) r
+left_after r limit fresh s p none = settled r r limit fresh s p (Keeps-from _ r (λ ys e.
     let w = mapped p r ys e in
     w.1 ∙ ap (λ l. Some l) (ap (λ n. drop n w.0) (sym none) ∙ w.2)))
 

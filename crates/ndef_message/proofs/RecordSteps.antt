@@ -1,4 +1,4 @@
--- What is left of a record, from one step of its writing to the next.
+-- The rest of a record, from one step of its writing to the next.
 use Rattle.std.proofs.Common.{◌≡◌, ◌≢◌, ℕ, suc, ◌+◌, ◌-◌, ◌*◌, ◌/◌, ◌%◌, ◌<◌, ◌≤◌, ◌==◌, ◌&&◌, ◌⊎◌, not, nat_lt, nat_le, Bool, true, false, List, [], ◌++◌, length, take, drop, refl, sym, ap, ap₂, ◌∙◌, inl, inr, arith, subst, length-append, length-take, length-drop, append-nil, append_assoc, take_all, ne_eqb, ltb, if◌then◌else◌, lit≤}
 use Rattle.std.proofs.lemmas.Bool.{eq-eqb, le-ltb, lt-ltb, eqb-true, ltb-true, true≢false}
 use Rattle.std.proofs.lemmas.Bool.Decides.{nat_tests}
@@ -122,7 +122,7 @@ take_both i j k front rest later h which =
     ]
 
 -- the chunk that is begun, of whose front i octets go out, and of its payload j
-pub record Turn (p : RecordPlan) (at : Progress) (kind id part : List ℕ) (i j : ℕ) : Type 0 where
+pub record ReadStep (p : RecordPlan) (at : Progress) (kind id part : List ℕ) (i j : ℕ) : Type 0 where
   pub can : CanBeWritten p
   pub size : 1 ≤ chunk_size p
   pub names : AreNames p kind id
@@ -139,7 +139,7 @@ abbrev pub gone : RecordPlan → Progress → (kind id part : List ℕ) → (i j
 gone p at kind id part i j = take i (drop at.head (chunk_front p (chunk_begin p at.taken) kind id)) ++ take j part
 
 -- within the chunk
-inside_on : (p : RecordPlan) (at : Progress) (kind id part more : List ℕ) (i j : ℕ) → Turn p at kind id part i j
+inside_on : (p : RecordPlan) (at : Progress) (kind id part more : List ℕ) (i j : ℕ) → ReadStep p at kind id part i j
     → at.taken % chunk_size p + j < chunk_size p
     → unwritten p at kind id (part ++ more)
     ≡ gone p at kind id part i j ++ unwritten p (record { taken = at.taken + j; head = at.head + i }) kind id (drop j (part ++ more))
@@ -164,7 +164,7 @@ inside_on p at kind id part more i j t h =
     ++ (take n (drop j rest) ++ later_octets p (drop n (drop j rest))))) (sym left)
 
 -- up to the end of the payload
-last_on : (p : RecordPlan) (at : Progress) (kind id part more : List ℕ) (i j : ℕ) → Turn p at kind id part i j
+last_on : (p : RecordPlan) (at : Progress) (kind id part more : List ℕ) (i j : ℕ) → ReadStep p at kind id part i j
     → 0 < j → at.taken + j ≡ p.payload_length → at.taken + length (part ++ more) ≡ p.payload_length
     → unwritten p at kind id (part ++ more) ≡ gone p at kind id part i j
 last_on p at kind id part more i j t some end all =
@@ -217,7 +217,7 @@ next_front p begin kind id rest size after some all =
     ∙ later-step p.form p.last ends s rest part later size some refl refl none
 
 -- up to the end of the chunk
-chunk_on : (p : RecordPlan) (at : Progress) (kind id part more : List ℕ) (i j : ℕ) → Turn p at kind id part i j
+chunk_on : (p : RecordPlan) (at : Progress) (kind id part more : List ℕ) (i j : ℕ) → ReadStep p at kind id part i j
     → 0 < j → at.taken % chunk_size p + j ≡ chunk_size p → at.taken + j < p.payload_length
     → at.taken + length (part ++ more) ≡ p.payload_length
     → unwritten p at kind id (part ++ more)
@@ -268,7 +268,7 @@ data Ends (p : RecordPlan) (at : Progress) (j : ℕ) : Type 0 where
   ends_all : is_end p at j ≡ true → 0 < j → at.taken + j ≡ p.payload_length → Ends p at j
   ends_chunk : is_end p at j ≡ true → 0 < j → at.taken % chunk_size p + j ≡ chunk_size p → at.taken + j < p.payload_length → Ends p at j
 
-which_end : (p : RecordPlan) (at : Progress) (kind id part : List ℕ) (i j : ℕ) → Turn p at kind id part i j → Ends p at j
+which_end : (p : RecordPlan) (at : Progress) (kind id part : List ℕ) (i j : ℕ) → ReadStep p at kind id part i j → Ends p at j
 which_end p at kind id part i j t =
     let s = chunk_size p in
     let low = mod-le at.taken s in
@@ -293,7 +293,7 @@ which_end p at kind id part i j t =
       ]
     ]
 
-pub turn_on : (p : RecordPlan) (at : Progress) (kind id part : List ℕ) (i j : ℕ) → Turn p at kind id part i j
+pub turn_on : (p : RecordPlan) (at : Progress) (kind id part : List ℕ) (i j : ℕ) → ReadStep p at kind id part i j
     → Steps p kind id part at (advanced (chunk_end p at) at i j) (gone p at kind id part i j)
 turn_on p at kind id part i j t =
     let back : (at.taken + j) - at.taken ≡ j = omega arith in
@@ -318,7 +318,7 @@ turn_on p at kind id part i j t =
           ];
     }
 
-pub progress_on : (p : RecordPlan) (at : Progress) (kind id part : List ℕ) (i j : ℕ) → Turn p at kind id part i j
+pub progress_on : (p : RecordPlan) (at : Progress) (kind id part : List ℕ) (i j : ℕ) → ReadStep p at kind id part i j
     → IsProgress p (advanced (chunk_end p at) at i j)
 progress_on p at kind id part i j t =
     let s = chunk_size p in

@@ -1,4 +1,4 @@
--- What is seen of a message that was checked.
+-- The view of a message that was checked.
 use Rattle.std.proofs.Common.{◌≡◌, ℕ, ◌<◌, ◌≤◌, ◌^◌, refl, sym, ◌∙◌, ap, subst, arith, List, [], ◌∷◌, length, map, take, length-take-le, Ok}
 use Rattle.std.specs.List.{AllByRecursion}
 use Rattle.ndef_format.specs.Records.{Run, pieces, IsRun}
@@ -13,11 +13,11 @@ use Rattle.ndef_format.specs.Accepted.{Accepted, IsMember}
 use Rattle.ndef_message.specs.Machine.Seen.{AreRuns, AreChecked, IsSeenRecord, pieces_of, runs_of, viewed_of}
 use Rattle.ndef_message.specs.Views.{Viewed, Views, OneView, NeverRefusedInView}
 use Rattle.ndef_message.proofs.ReadBack.{one_front}
-use Rattle.ndef_message.specs.Machine.SeenLaws.{pieces_told, runs_told, follow_of_read, flat_told}
+use Rattle.ndef_message.specs.Machine.SeenLaws.{pieces_reported, runs_reported, follow_of_read, flat_reported}
 
 -- whole runs are determined by their bytes
-pub whole_told : {bytes : List ℕ} (a : AreRuns bytes) → runs_of (pieces_of bytes) ≡ a.runs
-whole_told {bytes} a = ap runs_of (pieces_told (all_pieces a.runs) bytes a.spelled) ∙ runs_told a.runs (follow_of_read a.runs a.read)
+pub whole_reported : {bytes : List ℕ} (a : AreRuns bytes) → runs_of (pieces_of bytes) ≡ a.runs
+whole_reported {bytes} a = ap runs_of (pieces_reported (all_pieces a.runs) bytes a.spelled) ∙ runs_reported a.runs (follow_of_read a.runs a.read)
 
 pub length_joined : (rs : List Run) → length (map run_record rs) ≡ length rs
 length_joined [] = refl
@@ -56,7 +56,7 @@ module _ (set : Sets) (limits : LimitValues) where
       → v ≡ viewed_of (take taken input) profile → Views set holds limits input (Ok v)
   unfolding deep_runs
   views_of holds input taken records profile v range n (items, d, k) p e =
-      let runs : v.runs ≡ d.runs = ap (λ v. v.runs) e ∙ whole_told (deep_runs (take taken input) items range d) in
+      let runs : v.runs ≡ d.runs = ap (λ v. v.runs) e ∙ whole_reported (deep_runs (take taken input) items range d) in
       let bytes : v.taken ≡ taken = ap (λ v. v.taken) e ∙ length-take-le taken input n in
       let same : items ≡ map run_record d.runs = sym d.spelling.message.items in
       rw (runs, bytes) (
@@ -77,7 +77,7 @@ module _ (set : Sets) (limits : LimitValues) where
 pub some_seen : {bytes : List ℕ} {records : ℕ} (v : Viewed) (profile : Profile) → AreChecked bytes records
     → viewed_of bytes profile ≡ v → (length v.runs ≡ records) × (1 ≤ records) × (records ≤ 65535)
 some_seen v profile m e =
-    (ap (λ v. length v.runs) (sym e) ∙ ap length (whole_told m.whole) ∙ sym m.records_are, m.some, m.few)
+    (ap (λ v. length v.runs) (sym e) ∙ ap length (whole_reported m.whole) ∙ sym m.records_are, m.some, m.few)
 
 -- ---- the only view
 pub one_view : OneMeaning → (set : Sets) (holds : Conditions) → OneView set holds
@@ -85,8 +85,8 @@ one_view meaning set holds limits input v items count r h d =
     let e = r.1.0 in
     let t = one_front meaning set limits input items (map run_record v.runs) count v.taken h r.0 d e in
     let runs : d.runs ≡ v.runs =
-    sym (flat_told limits.profile d.runs items (take count input) d.spelling) ∙ ap (λ n. runs_of (pieces_of (take n input))) t.1
-    ∙ flat_told limits.profile e.runs (map run_record v.runs) (take v.taken input) e.spelling ∙ r.1.1 in
+    sym (flat_reported limits.profile d.runs items (take count input) d.spelling) ∙ ap (λ n. runs_of (pieces_of (take n input))) t.1
+    ∙ flat_reported limits.profile e.runs (map run_record v.runs) (take v.taken input) e.spelling ∙ r.1.1 in
     record { items_are = t.0; runs_are = runs; count_is = t.1 }
 
 pub never_refused : (set : Sets) (holds : Conditions) → NoPrefixIsAccepted set → NeverRefusedInView set holds

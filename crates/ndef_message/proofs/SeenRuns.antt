@@ -8,7 +8,7 @@ use Rattle.ndef_format.specs.Canonical.{HasLengths}
 use Rattle.ndef_message.specs.Machine.Seen.{AreRun, AreRuns, IsSeenRecord, pieces_of, runs_of, run_of}
 use Rattle.ndef_message.specs.Views.{payloads, only_payload}
 use Rattle.ndef_message.proofs.Rests.{spell_append}
-use Rattle.ndef_message.specs.Machine.SeenLaws.{First, first_piece_of, pieces_told, run_told, run_is}
+use Rattle.ndef_message.specs.Machine.SeenLaws.{First, first_piece_of, pieces_reported, run_reported, run_is}
 
 -- these bytes and payload octets of a run were read, some of its pieces are left, and runs after it
 pub record Going (bytes rest : List ℕ) (size : ℕ) : Type 0 where
@@ -73,12 +73,12 @@ room_of {size = size} g =
     omega (arith, n, k, m)
 
 -- after a piece that another one follows
-pub goes_on : {bytes rest : List ℕ} {size : ℕ} (g : Going bytes rest size) → g.next.chunked ≡ true → (behind : List ℕ) → behind ≡ (next_of g).rest → (n : ℕ) → n ≡ size + length g.next.payload
-    → Going bytes behind n
-goes_on {bytes} {rest} {size} g c behind b n e = by_later g.later g.are g.follow (next_of g).more g.counted
+pub goes_on : {bytes rest : List ℕ} {size : ℕ} (g : Going bytes rest size) → g.next.chunked ≡ true → (following : List ℕ) → following ≡ (next_of g).rest → (n : ℕ) → n ≡ size + length g.next.payload
+    → Going bytes following n
+goes_on {bytes} {rest} {size} g c following b n e = by_later g.later g.are g.follow (next_of g).more g.counted
   where
     by_later : (later : List Piece) → g.done ++ g.next ∷ later ≡ pieces g.run → Follow g.next.chunked later → SpellsPieces (later ++ all_pieces g.runs) (next_of g).rest
-        → size + length (payload_of (g.next ∷ later)) ≡ length (payload_of (pieces g.run)) → Going bytes behind n
+        → size + length (payload_of (g.next ∷ later)) ≡ length (payload_of (pieces g.run)) → Going bytes following n
     by_later [] are f more k = absurd (true≢false (sym c ∙ f))
     by_later (q ∷ later) are f more k = record {
       run = g.run;
@@ -98,18 +98,18 @@ goes_on {bytes} {rest} {size} g c behind b n e = by_later g.later g.are g.follow
     }
 
 -- after the last piece of the run
-pub record Over (bytes behind : List ℕ) (size : ℕ) : Type 0 where
+pub record Over (bytes following : List ℕ) (size : ℕ) : Type 0 where
   pub front : List ℕ
-  pub split : bytes ≡ front ++ behind
+  pub split : bytes ≡ front ++ following
   pub run : AreRun front size
-  pub rest : AreRuns behind
+  pub rest : AreRuns following
 
-pub is_over : {bytes rest : List ℕ} {size : ℕ} (g : Going bytes rest size) → g.next.chunked ≡ false → (behind : List ℕ) → behind ≡ (next_of g).rest → (n : ℕ) → n ≡ size + length g.next.payload
-    → Over bytes behind n
-is_over {bytes} {rest} {size} g c behind b n e = by_later g.later g.are g.follow (next_of g).more g.counted
+pub is_over : {bytes rest : List ℕ} {size : ℕ} (g : Going bytes rest size) → g.next.chunked ≡ false → (following : List ℕ) → following ≡ (next_of g).rest → (n : ℕ) → n ≡ size + length g.next.payload
+    → Over bytes following n
+is_over {bytes} {rest} {size} g c following b n e = by_later g.later g.are g.follow (next_of g).more g.counted
   where
     by_later : (later : List Piece) → g.done ++ g.next ∷ later ≡ pieces g.run → Follow g.next.chunked later → SpellsPieces (later ++ all_pieces g.runs) (next_of g).rest
-        → size + length (payload_of (g.next ∷ later)) ≡ length (payload_of (pieces g.run)) → Over bytes behind n
+        → size + length (payload_of (g.next ∷ later)) ≡ length (payload_of (pieces g.run)) → Over bytes following n
     by_later (q ∷ later) are f more k = absurd (true≢false (sym f.0 ∙ c))
     by_later [] are f more k = record {
       front = g.front ++ (next_of g).split.front;
@@ -130,23 +130,23 @@ within g =
     omega (arith, e)
 
 -- the first part of the bytes, cut off by its length
-pub cut_off : {bytes behind front back : List ℕ} {size : ℕ} (o : Over bytes behind size) → front ≡ take (length bytes - length behind) bytes → back ≡ drop (length bytes - length behind) bytes
-    → (front ≡ o.front) × (back ≡ behind)
-cut_off {bytes} {behind} {front} {back} o f b =
-    let n = length bytes - length behind in
-    let e = ap length o.split ∙ length-append o.front behind in
+pub cut_off : {bytes following front back : List ℕ} {size : ℕ} (o : Over bytes following size) → front ≡ take (length bytes - length following) bytes → back ≡ drop (length bytes - length following) bytes
+    → (front ≡ o.front) × (back ≡ following)
+cut_off {bytes} {following} {front} {back} o f b =
+    let n = length bytes - length following in
+    let e = ap length o.split ∙ length-append o.front following in
     let size : length o.front ≡ n = omega (arith, e) in
-    (f ∙ ap (take n) o.split ∙ take_at o.front behind n size, b ∙ ap (drop n) o.split ∙ drop_at o.front behind n size)
+    (f ∙ ap (take n) o.split ∙ take_at o.front following n size, b ∙ ap (drop n) o.split ∙ drop_at o.front following n size)
 
 -- what is known of both parts
-pub told : {bytes behind : List ℕ} {size : ℕ} (o : Over bytes behind size) → runs_of (pieces_of bytes) ≡ run_of o.front ∷ runs_of (pieces_of behind)
-told {bytes} {behind} o =
+pub reported : {bytes following : List ℕ} {size : ℕ} (o : Over bytes following size) → runs_of (pieces_of bytes) ≡ run_of o.front ∷ runs_of (pieces_of following)
+reported {bytes} {following} o =
     let r = o.run.run in
     let rs = o.rest.runs in
-    let all : SpellsPieces (pieces r ++ all_pieces rs) bytes = subst (SpellsPieces (pieces r ++ all_pieces rs)) (sym o.split) (spell_append (pieces r) (all_pieces rs) o.front behind o.run.spelled o.rest.spelled) in
-    ap runs_of (pieces_told (pieces r ++ all_pieces rs) bytes all)
-    ∙ run_told r.initial r.later (all_pieces rs) o.run.read.follow
-    ∙ ap₂ (λ x ps. x ∷ runs_of ps) (sym (run_is r o.front o.run.spelled)) (sym (pieces_told (all_pieces rs) behind o.rest.spelled))
+    let all : SpellsPieces (pieces r ++ all_pieces rs) bytes = subst (SpellsPieces (pieces r ++ all_pieces rs)) (sym o.split) (spell_append (pieces r) (all_pieces rs) o.front following o.run.spelled o.rest.spelled) in
+    ap runs_of (pieces_reported (pieces r ++ all_pieces rs) bytes all)
+    ∙ run_reported r.initial r.later (all_pieces rs) o.run.read.follow
+    ∙ ap₂ (λ x ps. x ∷ runs_of ps) (sym (run_is r o.front o.run.spelled)) (sym (pieces_reported (all_pieces rs) following o.rest.spelled))
 
 -- ---- one run
 

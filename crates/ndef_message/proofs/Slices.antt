@@ -10,7 +10,7 @@ use Rattle.ndef_format.specs.Records.{HeadFields, AreOctets}
 use Rattle.ndef_format.specs.Limits.{LimitValues, AreInRange}
 use Rattle.ndef_format.specs.declared.profile.Profile.{Profile}
 use Rattle.ndef_format.specs.declared.reason.Reason.{Reason}
-use Rattle.ndef_lang.specs.Language.{Continues, Reaches, PassesBetween, Behind, StepsAll}
+use Rattle.ndef_lang.specs.Language.{Continues, Reaches, PassesBetween, After, StepsAll}
 use Rattle.ndef_format.specs.Reasons.{IsLowest}
 use Rattle.ndef_lang.specs.StepLaws.{steps_done}
 use Rattle.ndef_lang.specs.declared.record_language.RecordLanguage.{Ghosts}
@@ -22,7 +22,7 @@ use Rattle.ndef_message.specs.Machine.Points.{Point, InPayload, IsAtPoint}
 use Rattle.ndef_message.specs.Machine.Moves.{given_next, point_next}
 use Rattle.ndef_message.specs.Machine.Format.{FormatLaws}
 use Rattle.ndef_message.specs.Machine.Payload.{most_left}
-use Rattle.ndef_message.specs.Machine.State.{Speaks, Stands, Stopped, InBody, Onward}
+use Rattle.ndef_message.specs.Machine.State.{Speaks, IsConsistentAt, Stopped, InBody, Onward}
 use Rattle.ndef_message.specs.declared.phase.Phase.TheVariants as phases
 use Rattle.ndef_message.specs.declared.state.State.{State}
 use Rattle.ndef_message.proofs.Entered.{given_members, body_counted, body_goes_on, body_went_on, stopped}
@@ -48,12 +48,12 @@ so_far_all (Some m) f k i z t = ap (λ y. record m { payload = y }) (append_asso
 -- ---- after octets that no state of the language stands for
 
 -- the language, each state of which stands after these octets
-abbrev behind : {L : Type 0} → Ghosts L → List ℕ → Ghosts L
-behind language t =
-    record language { future = λ state. Behind (language.future state) t; reached = λ state tnf name n profile s. (before : List ℕ) × ((s ≡ before ++ t) × language.reached state tnf name n profile before) }
+abbrev following : {L : Type 0} → Ghosts L → List ℕ → Ghosts L
+following language t =
+    record language { future = λ state. After (language.future state) t; reached = λ state tnf name n profile s. (before : List ℕ) × ((s ≡ before ++ t) × language.reached state tnf name n profile before) }
 
-speaks_behind : {L : Type 0} (language : Ghosts L) (limits : LimitValues) (state : L) (m : Item) (t : List ℕ) → Speaks language limits state m → Speaks (behind language t) limits state (record m { payload = m.payload ++ t })
-speaks_behind language limits state m t s = record {
+speaks_after : {L : Type 0} (language : Ghosts L) (limits : LimitValues) (state : L) (m : Item) (t : List ℕ) → Speaks language limits state m → Speaks (following language t) limits state (record m { payload = m.payload ++ t })
+speaks_after language limits state m t s = record {
   reached = (m.payload, (refl, s.reached));
   future = λ z. (
     λ x. subst (λ y. language.payloads m.tnf m.kind limits.records limits.profile y) (sym (append_assoc m.payload t z)) ((s.future (t ++ z)).0 x),
@@ -110,8 +110,8 @@ module _ {L : Type 0} {language : Ghosts L} {limits : LimitValues} {state : Stat
   body_all payload' t are few r f = body_by language payload' t are few (speaks_all language limits state.payload payload' (record_so_far a.c.begun a.f a.kind a.id a.payload) t r f a.speaks)
 
   -- .. by the one that stands before them
-  body_behind : (t : List ℕ) → AreOctets t → length t ≤ left → InBody (behind language t) limits state h 0 (left - length t) (bytes ++ t) given a.c a.f a.kind a.id (a.payload ++ t)
-  body_behind t are few = body_by (behind language t) state.payload t are few (speaks_behind language limits state.payload (record_so_far a.c.begun a.f a.kind a.id a.payload) t a.speaks)
+  body_after : (t : List ℕ) → AreOctets t → length t ≤ left → InBody (following language t) limits state h 0 (left - length t) (bytes ++ t) given a.c a.f a.kind a.id (a.payload ++ t)
+  body_after t are few = body_by (following language t) state.payload t are few (speaks_after language limits state.payload (record_so_far a.c.begun a.f a.kind a.id a.payload) t a.speaks)
 
   -- .. and fewer than are left, they stand in its payload
   pub at_front : (t : List ℕ) → AreOctets t → length t < left → IsAtPoint limits (bytes ++ t) given (InPayload a.c a.f a.kind a.id (a.payload ++ t))
@@ -139,9 +139,9 @@ module _ (laws : FormatLaws) {L : Type 0} {language : Ghosts L} {limits : LimitV
         (ap (λ n. n - length t) most_is ∙ most_after h.chunked state.place.room h.payload_length left (length t) few) d.1)
 
     -- the octets before the refused one
-    front_viable : (s : List ℕ) → AreOctets s → length s ≡ count → count ≤ left → PassesBetween (Behind (language.future state.payload) s) (left - count) (most - count) → IsViable language.payloads limits (bytes ++ s)
+    front_viable : (s : List ℕ) → AreOctets s → length s ≡ count → count ≤ left → PassesBetween (After (language.future state.payload) s) (left - count) (most - count) → IsViable language.payloads limits (bytes ++ s)
     front_viable s ok e l p =
-        body_goes_on laws range (body_behind a s ok (omega arith)) octets_of others members
+        body_goes_on laws range (body_after a s ok (omega arith)) octets_of others members
         (between_at (left - count) (most - count) (left - length s) (most_left h.chunked state.place.room h.payload_length (left - length s)) (omega arith)
         (ap (λ n. n - count) most_is ∙ most_after h.chunked state.place.room h.payload_length left count l ∙ ap (λ n. most_left h.chunked state.place.room h.payload_length (left - n)) (sym e)) p)
 
@@ -192,7 +192,7 @@ module _ (laws : FormatLaws) {L : Type 0} {language : Ghosts L} {limits : LimitV
 -- all of them were taken
 pub all_taken : {L : Type 0} {language : Ghosts L} {limits : LimitValues} {state : State L}
     (bytes : List ℕ) (given : List Item) (point : Point) (c : Before) (f : HeadFields) (k i z t s : List ℕ) → point ≡ InPayload c f k i z → s ≡ t → length z + length t ≤ f.payload_length
-    → Stands language limits state (bytes ++ t) (given_next limits given c f k i (z ++ t)) (point_next limits c f k i (z ++ t)) → Onward language limits state bytes given point s
+    → IsConsistentAt language limits state (bytes ++ t) (given_next limits given c f k i (z ++ t)) (point_next limits c f k i (z ++ t)) → Onward language limits state bytes given point s
 all_taken {language = language} {limits} {state} bytes given point c f k i z t s e g few x =
     subst (Onward language limits state bytes given point) (sym g)
     (inl (given_next limits given c f k i (z ++ t), point_next limits c f k i (z ++ t), moves_payload limits given point t c f k i z e few, x))

@@ -1,4 +1,4 @@
--- What follows of what is only known to be there.
+-- Consequences of a value that is only known to exist.
 use Rattle.std.proofs.Common.{Bool, IsTrue, ℕ, ◌+◌, ◌≤◌, List, length}
 use Rattle.std.proofs.Math.Logic.{∥∥₁_elim}
 use Rattle.std.proofs.Props.{props}

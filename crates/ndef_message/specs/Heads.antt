@@ -1,4 +1,4 @@
--- What the heads of the chunks say in which a record is written.
+-- The heads of the chunks in which a record is written.
 use Rattle.std.specs.Prelude.{ℕ, Bool, false, not, ◌==◌, ◌&&◌, Option, None, Some, if◌then◌else◌}
 use Rattle.ndef_format.specs.Records.{HeadFields, code}
 use Rattle.ndef_format.specs.declared.tnf.Tnf.{Tnf}

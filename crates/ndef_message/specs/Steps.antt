@@ -1,4 +1,4 @@
--- What is left of a record that is written in steps.
+-- The rest of a record that is written in steps.
 use Rattle.std.specs.Prelude.{true, false, ◌≡◌, ◌≢◌, ℕ, ◌+◌, ◌-◌, ◌%◌, ◌<◌, ◌≤◌, ◌^◌, ◌==◌, ◌&&◌, min, nat_le, nat_lt, Bool, List, [], ◌∷◌, ◌++◌, length, take, drop, unwrap_or, if◌then◌else◌}
 use Rattle.std.specs.List.{flat_map}
 use Rattle.std.specs.Option.{ForSome}
@@ -53,7 +53,7 @@ chunk_length p begin = min (p.payload_length - begin) (chunk_size p)
 abbrev pub is_last_chunk : RecordPlan → (begin : ℕ) → Bool
 is_last_chunk p begin = nat_le (p.payload_length - begin) (chunk_size p)
 
--- NDEF 1.0, record layout: what its head says
+-- NDEF 1.0, record layout: the fields of its head
 abbrev pub chunk_fields : RecordPlan → (begin : ℕ) → HeadFields
 chunk_fields p begin =
     if begin == 0
@@ -65,7 +65,7 @@ chunk_fields p begin =
 abbrev pub chunk_front : RecordPlan → (begin : ℕ) → (kind id : List ℕ) → List ℕ
 chunk_front p begin kind id = octets (chunk_fields p begin) ++ (if begin == 0 then kind ++ id else [])
 
--- ---- what is left of it
+-- ---- the rest of it
 
 -- a payload that has an octet is written
 abbrev pub is_over : RecordPlan → Progress → Bool
@@ -75,7 +75,7 @@ is_over p at = nat_lt 0 p.payload_length && at.taken == p.payload_length
 abbrev pub later_octets : RecordPlan → (rest : List ℕ) → List ℕ
 later_octets p rest = flat_map (written_piece p.form) (later_pieces p.last (all_parts (chunk_size p) rest))
 
--- what is left of the chunk that is begun, and the chunks after it, where `rest` is left of the payload
+-- the rest of the chunk that is begun, and the chunks after it, where `rest` is left of the payload
 abbrev pub unwritten : RecordPlan → Progress → (kind id rest : List ℕ) → List ℕ
 unwritten p at kind id rest =
     let inside = at.taken % chunk_size p in
@@ -100,7 +100,7 @@ pub record IsProgress (p : RecordPlan) (at : Progress) : Type 0 where
   pub inside : is_over p at ≡ false → at.taken % chunk_size p ≢ 0
       → at.head ≡ front_length p (chunk_begin p at.taken)
 
--- ---- what a call writes
+-- -- the output of a call
 
 -- with this part of the payload that is left, these octets go out next, whatever the payload is after it
 pub record Steps (p : RecordPlan) (kind id part : List ℕ) (old new : Progress) (text : List ℕ) : Type 0 where
@@ -146,13 +146,13 @@ pub record AreLeft (b : Begun) (kind id rest : List ℕ) : Type 0 where
   pub names : AreNames b.plan kind id
   pub all : b.progress.taken + length rest ≡ b.plan.payload_length
 
--- what a call is given: the type, the id, and a part of the payload that is left, from its first octet on
+-- the arguments of a call: the type, the id, and a part of the payload that is left, from its first octet on
 pub record Given : Type 0 where
   pub kind : List ℕ
   pub id : List ℕ
   pub part : List ℕ
 
--- they have the lengths that were said
+-- they have the lengths of the plan
 pub record Continues (b : Begun) (given : Given) : Type 0 where
   pub names : AreNames b.plan given.kind given.id
   pub there : b.progress.taken + length given.part ≤ b.plan.payload_length
@@ -176,7 +176,7 @@ pub record Call : Type 0 where
   pub after : List ℕ
   pub count : ℕ
 
--- calls one after another, each given a front of what is left of the payload
+-- calls one after another, each given a front of the rest of the payload
 abbrev pub AreCalls : (kind id payload : List ℕ) → Begun → List Call → Begun → Type 0
 AreCalls kind id payload old [] new = new ≡ old
 AreCalls kind id payload old (c ∷ cs) new =
@@ -184,7 +184,7 @@ AreCalls kind id payload old (c ∷ cs) new =
     × WritesNext old (record { kind = kind; id = id; part = c.part }) c.before c.after c.count mid
     × AreCalls kind id payload mid cs new
 
--- Whatever the parts and the buffers, what the calls have written, joined, and what is left are the record.
+-- For any parts and buffers, the bytes that the calls have written, joined, and the rest are the record.
 abbrev pub StepsAreExact : Type 0
 StepsAreExact =
     (p : RecordPlan) (kind id payload : List ℕ) (calls : List Call) (last : Begun) → CanBeWritten p

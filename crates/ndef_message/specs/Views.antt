@@ -1,4 +1,4 @@
--- What is seen of the bytes of a message without copying them.
+-- The parts of a message that are seen in its bytes without copying them.
 use Rattle.std.specs.Prelude.{◌≡◌, ℕ, ◌≤◌, List, [], ◌∷◌, length, map, take, Option, Some, None, Result, Ok, Err}
 use Rattle.ndef_format.specs.Records.{Piece, Run}
 use Rattle.ndef_format.specs.Messages.{Item, run_record}
@@ -23,7 +23,7 @@ IsViewOf set limits input v =
     × ((accepted : Accepted set limits (map run_record v.runs) (take v.taken input))
     × (accepted.runs ≡ v.runs)) × (v.profile ≡ limits.profile)
 
--- NDEF 1.0, messages: what is seen of an input: a message at its front; or it is refused.
+-- NDEF 1.0, messages: the view of an input: a message at its front; or it is refused.
 abbrev pub Views : Sets → Conditions → LimitValues → (input : List ℕ) → Result Viewed Refusal
     → Type 0
 Views set holds limits input (Ok v) = IsViewOf set limits input v
@@ -40,13 +40,13 @@ only_payload _ = None
 
 -- ---- laws
 
--- these records, in these runs and this number of bytes, are what is seen
+-- the view has these records, in these runs and this number of bytes
 pub record IsSeen (v : Viewed) (items : List Item) (runs : List Run) (count : ℕ) : Type 0 where
   pub items_are : items ≡ map run_record v.runs
   pub runs_are : runs ≡ v.runs
   pub count_is : count ≡ v.taken
 
--- What is seen of an input is the only message at its front, in the only runs that spell it.
+-- A view of an input shows the only message at its front, in the only runs that spell it.
 abbrev pub OneView : Sets → Conditions → Type 0
 OneView set holds =
     (limits : LimitValues) (input : List ℕ) (v : Viewed) (items : List Item) (count : ℕ)

@@ -16,8 +16,8 @@ use ndef_lang::RecordLanguage;
 use ndef_piece::{WholePiece, messages_are_walks, whole_piece};
 use ndef_value::Limits;
 
-/// The bytes with which the run at the place continues to its end, and whether the message ends
-/// there; none where that isn't clear at once. Its payload isn't looked into.
+/// Returns the number of bytes by which the run at the place continues to its end, and whether the message ends
+/// there; None if that isn't clear at once. The payload of the run isn't validated.
 #[inline(never)]
 fn accepted_run(limits: &Limits, place: Place, bytes: &[u8]) -> Option<(usize, bool)>
     requires { place.inside ≡ true }
@@ -36,7 +36,7 @@ fn accepted_run(limits: &Limits, place: Place, bytes: &[u8]) -> Option<(usize, b
         if !piece.is_chunked() {
             return Some((bytes.len() - rest.len(), piece.is_last()));
         }
-        at = at.behind_chunk(piece.payload.len() as u32);
+        at = at.past_chunk(piece.payload.len() as u32);
     }
     None
 }
@@ -46,7 +46,7 @@ fn accepted_run(limits: &Limits, place: Place, bytes: &[u8]) -> Option<(usize, b
 fn whole_chunk<'a>(limits: &Limits, place: &Place, bytes: &'a [u8]) -> Option<WholePiece<'a>>
     requires { place.now.inside ≡ true }
     ensures split { IfSome result (λ w. IsSplit (shown w) (is_set 4 w.header) w.rest.now bytes.now) }
-    ensures stands { IfSome result (λ w. pieces.Stands (spot_of limits.now.profile place.now) (shown w)) }
+    ensures stands { IfSome result (λ w. pieces.IsConsistentAt (spot_of limits.now.profile place.now) (shown w)) }
     ensures chunked { IfSome result (λ w. is_set 5 w.header ≡ true) }
 {
     let piece = whole_piece(bytes)?;
@@ -56,8 +56,8 @@ fn whole_chunk<'a>(limits: &Limits, place: &Place, bytes: &'a [u8]) -> Option<Wh
     Some(piece)
 }
 
-/// As many whole pieces at the front of the bytes as continue the run at the place, each with another after it: their
-/// bytes, and the place after them. Their payload isn't looked into.
+/// Accepts as many whole pieces at the front of the bytes as continue the run at the place, each with another after it:
+/// returns the number of their bytes, and the place after them. Their payload isn't validated.
 pub(crate) fn accepted_chunks(limits: &Limits, place: Place, bytes: &[u8]) -> (usize, Place)
     requires { place.inside ≡ true }
     ensures within { result.0 ≤ length bytes.now }
@@ -67,16 +67,16 @@ pub(crate) fn accepted_chunks(limits: &Limits, place: Place, bytes: &[u8]) -> (u
     let mut found = place;
     let mut rest = bytes;
     while let Some(piece) = whole_chunk(limits, &found, rest) {
-        found = found.behind_chunk(piece.payload.len() as u32);
+        found = found.past_chunk(piece.payload.len() as u32);
         rest = piece.rest;
     }
     (bytes.len() - rest.len(), found)
 }
 
-/// Whether the piece is a record, which may stand at the place, with a payload of its type.
+/// Whether the piece is a record, which may occur at the place, with a payload of its type.
 #[inline(always)]
 fn is_record<L: RecordLanguage>(limits: &Limits, place: &Place, piece: &WholePiece<'_>) -> bool
-    ensures stands { IsTrue result → pieces.Stands (spot_of limits.now.profile place.now) (shown piece.now) }
+    ensures stands { IsTrue result → pieces.IsConsistentAt (spot_of limits.now.profile place.now) (shown piece.now) }
     ensures one { IsTrue result → is_set 5 piece.now.header ≡ false }
     ensures outer { IsTrue result → place.now.inside ≡ false }
     ensures member { IsTrue result → IsMember L.payloads limits.now (record_of piece.now) }
@@ -148,13 +148,13 @@ fn accepted_record<L: RecordLanguage>(
     if !piece.opens_at(&place.spot(limits.profile())) || !L::takes_all(piece.tnf(), piece.kind) {
         return None;
     }
-    let next = place.behind_chunk(piece.payload.len() as u32);
+    let next = place.past_chunk(piece.payload.len() as u32);
     let (more, last) = accepted_run(limits, next, piece.rest)?;
     Some((taken + more, last))
 }
 
-/// As many whole records at the front of the bytes as the fast test finds right: their bytes, the
-/// place after them, and whether the message ends there.
+/// Accepts as many whole records at the front of the bytes as the fast test finds right: returns the number of
+/// their bytes, the place after them, and whether the message ends there.
 pub(crate) fn accepted_records<L: RecordLanguage>(
     limits: &Limits,
     place: Place,
@@ -170,7 +170,7 @@ pub(crate) fn accepted_records<L: RecordLanguage>(
             return (at, found, false);
         };
         at += taken;
-        found = found.behind_record(limits);
+        found = found.after_record(limits);
         if last {
             return (at, found, true);
         }

@@ -3,9 +3,9 @@ ghost use Rattle.std.specs.Prelude.{◌≡◌, ◌+◌, ◌-◌, ◌<◌, ◌≤
 ghost use Rattle.ndef_format.specs.Limits.{LimitValues, greatest_length};
 ghost use Rattle.ndef_format.specs.HeadReasons.{is_set};
 ghost use Rattle.ndef_message.specs.Feed.{Ends, IsLongestViable, Tells, TellsEnd, CountsRecords, CountsMessage};
-ghost use Rattle.ndef_message.specs.Machine.Fronts.{Leads, SomeLed, WhateverLed, Feeds};
-ghost use Rattle.ndef_message.specs.Machine.Accepted.{BeginsWith, IsFresh, LeadsBetween, passed, record_of};
-ghost use Rattle.ndef_message.specs.Machine.State.{answer_of, Knows, Onward};
+ghost use Rattle.ndef_message.specs.Machine.Fronts.{IsReachable, SomeLed, ForEachInput, Feeds};
+ghost use Rattle.ndef_message.specs.Machine.Accepted.{BeginsWith, IsFresh, IsReachableBetween, passed, record_of};
+ghost use Rattle.ndef_message.specs.Machine.State.{answer_of, MatchesInput, Onward};
 
 use crate::Fed;
 use crate::format::format_laws;
@@ -21,13 +21,13 @@ pub struct Checker<L: RecordLanguage> {
     pub(crate) limits: Limits,
     pub(crate) state: State<L>,
     pub(crate) taken: u64,
-    ghost led: { ∥ SomeLed (Knows L.RecordLanguage limits state taken) ∥₁ },
+    ghost led: { ∥ SomeLed (MatchesInput L.RecordLanguage limits state taken) ∥₁ },
 }
 
 impl<L: RecordLanguage> Checker<L> {
-    ghost use Rattle.ndef_message.specs.Machine.Taken.{WasFed, WhateverFed};
+    ghost use Rattle.ndef_message.specs.Machine.Taken.{WasFed, ForEachFed};
 
-    /// Before a message.
+    /// Returns a checker before a message.
     pub fn new(limits: Limits) -> Self
         ensures { WasFed result limits [] }
     {
@@ -37,9 +37,9 @@ impl<L: RecordLanguage> Checker<L> {
     /// Takes the next bytes of the message, up to its last one or the first that is refused. After
     /// the last byte it takes none, and after a refusal it repeats that refusal.
     pub fn feed(&mut self, bytes: &[u8]) -> Fed
-        ensures fed { WhateverFed self.old (λ limits front.
+        ensures fed { ForEachFed self.old (λ limits front.
             WasFed self.new limits (front ++ bytes.now)) }
-        ensures tells { WhateverFed self.old (λ limits front.
+        ensures tells { ForEachFed self.old (λ limits front.
             Tells L.payloads L.reasons limits (front ++ bytes.now) (length front) result) }
     {
         // For the proof alone.
@@ -47,9 +47,9 @@ impl<L: RecordLanguage> Checker<L> {
         self.feed_bytes(bytes)
     }
 
-    /// What the input is, if it ends here.
+    /// Returns the refusal of the input, if it ends here, or `Ok` if it begins with a message.
     pub fn end(&self) -> Result<(), Refusal>
-        ensures { WhateverFed self.now (λ limits bytes.
+        ensures { ForEachFed self.now (λ limits bytes.
             TellsEnd L.payloads L.reasons limits bytes result) }
     {
         self.judge_end()
@@ -57,9 +57,9 @@ impl<L: RecordLanguage> Checker<L> {
 
     /// The records that have ended; after a refusal, before the refused byte.
     pub fn records(&self) -> u32
-        ensures counted { WhateverFed self.now (λ limits bytes.
+        ensures counted { ForEachFed self.now (λ limits bytes.
             CountsRecords L.payloads limits bytes result) }
-        ensures message { WhateverFed self.now (λ limits bytes.
+        ensures message { ForEachFed self.now (λ limits bytes.
             CountsMessage L.payloads limits bytes result) }
     {
         // For the proof alone.
@@ -70,9 +70,9 @@ impl<L: RecordLanguage> Checker<L> {
     /// The bytes that were taken; after a refusal, those before the refused one. They are at most as
     /// many as a message within the limits can have.
     pub fn place(&self) -> u64
-        ensures longest { WhateverFed self.now (λ limits bytes.
+        ensures longest { ForEachFed self.now (λ limits bytes.
             IsLongestViable L.payloads limits bytes result) }
-        ensures bound { WhateverFed self.now (λ limits bytes.
+        ensures bound { ForEachFed self.now (λ limits bytes.
             result ≤ greatest_length limits) }
     {
         // For the proof alone.
@@ -81,12 +81,12 @@ impl<L: RecordLanguage> Checker<L> {
     }
 }
 
-/// What these do, by the bytes that led to the checker, the records that they end and the point where they end.
+/// The same functions, in terms of the bytes that the checker took, the records that they end and the point after them.
 impl<L: RecordLanguage> Checker<L> {
     ghost use Rattle.ndef_message.specs.Machine.Points.{start_point};
     ghost use Rattle.ndef_message.specs.Machine.Checkers.{CheckerReached, checker_limits};
 
-    /// Before the first byte.
+    /// Returns a checker before the first byte.
     pub(crate) fn start(limits: Limits) -> Self
         ensures limits { checker_limits result ≡ limits }
         ensures reached { CheckerReached result [] [] (start_point limits) }
@@ -110,7 +110,7 @@ impl<L: RecordLanguage> Checker<L> {
     /// Takes bytes up to the last one of the message or the first that is refused.
     pub(crate) fn feed_bytes(&mut self, bytes: &[u8]) -> Fed
         ensures limits { checker_limits self.new ≡ checker_limits self.old }
-        ensures fed { WhateverLed (CheckerReached self.old) (λ front given point.
+        ensures fed { ForEachInput (CheckerReached self.old) (λ front given point.
             Feeds L.payloads L.reasons (checker_limits self.old) (CheckerReached self.new) front bytes.now result) }
     {
         self.feed_tried(bytes, false)
@@ -120,7 +120,7 @@ impl<L: RecordLanguage> Checker<L> {
     /// tried on it again.
     pub(crate) fn feed_tried(&mut self, bytes: &[u8], tried: bool) -> Fed
         ensures limits { checker_limits self.new ≡ checker_limits self.old }
-        ensures fed { WhateverLed (CheckerReached self.old) (λ front given point.
+        ensures fed { ForEachInput (CheckerReached self.old) (λ front given point.
             Feeds L.payloads L.reasons (checker_limits self.old) (CheckerReached self.new) front bytes.now result) }
     {
         // For the proof alone.
@@ -141,9 +141,9 @@ impl<L: RecordLanguage> Checker<L> {
         }
     }
 
-    /// What the bytes are, if the input ends with them.
+    /// Returns the refusal of the bytes, if the input ends with them, or `Ok` if they are a message.
     pub(crate) fn judge_end(&self) -> Result<(), Refusal>
-        ensures { WhateverLed (CheckerReached self.now) (λ front given point.
+        ensures { ForEachInput (CheckerReached self.now) (λ front given point.
             Ends L.payloads L.reasons (checker_limits self.now) front result) }
     {
         // For the proof alone.
@@ -160,7 +160,7 @@ impl<L: RecordLanguage> Checker<L> {
 
     /// The records that they end.
     pub(crate) fn ended_records(&self) -> u32
-        ensures { WhateverLed (CheckerReached self.now) (λ front given point. result ≡ length given) }
+        ensures { ForEachInput (CheckerReached self.now) (λ front given point. result ≡ length given) }
     {
         // For the proof alone.
         format_laws(&self.limits);
@@ -171,7 +171,7 @@ impl<L: RecordLanguage> Checker<L> {
 
     /// The number of them that are accepted: all, or all but a refused one.
     pub(crate) fn accepted_bytes(&self) -> u64
-        ensures accepted { WhateverLed (CheckerReached self.now) (λ front given point.
+        ensures accepted { ForEachInput (CheckerReached self.now) (λ front given point.
             IsLongestViable L.payloads (checker_limits self.now) front result) }
         ensures bound { result ≤ greatest_length (checker_limits self.now) }
     {
@@ -183,7 +183,7 @@ impl<L: RecordLanguage> Checker<L> {
         }
     }
 
-    /// What is answered before another byte is seen.
+    /// Returns the answer that is known before another byte is seen.
     fn answer(&self, taken: usize) -> Option<Fed>
         ensures { result ≡ answer_of self.now.state.phase taken }
     {
@@ -201,8 +201,8 @@ impl<L: RecordLanguage> Checker<L> {
         ensures limits { self.new.limits ≡ self.old.limits }
         ensures none { result ≡ 0 → self.new.state.phase ≡ self.old.state.phase }
         ensures most { result ≤ length bytes.now }
-        ensures onward { WhateverLed (CheckerReached self.old) (λ front given point.
-            Leads (CheckerReached self.new) (front ++ take result bytes.now)) }
+        ensures onward { ForEachInput (CheckerReached self.old) (λ front given point.
+            IsReachable (CheckerReached self.new) (front ++ take result bytes.now)) }
     {
         // For the proof alone.
         format_laws(&self.limits);
@@ -223,8 +223,8 @@ impl<L: RecordLanguage> Checker<L> {
         ensures limits { self.new.limits ≡ self.old.limits }
         ensures some { 0 < result.0 }
         ensures most { result.0 ≤ length bytes.now }
-        ensures onward { WhateverLed (CheckerReached self.old) (λ front given point.
-            Leads (CheckerReached self.new) (front ++ take result.0 bytes.now)) }
+        ensures onward { ForEachInput (CheckerReached self.old) (λ front given point.
+            IsReachable (CheckerReached self.new) (front ++ take result.0 bytes.now)) }
     {
         let taken = self.pass(bytes, tried);
         if taken > 0 {
@@ -240,14 +240,15 @@ impl<L: RecordLanguage> Checker<L> {
         ensures limits { self.new.limits ≡ self.old.limits }
         ensures taken { self.new.taken ≡ self.old.taken + (length bytes.now - length piece.now.rest.now) }
         ensures phase { self.new.state.phase ≡ (if is_set 6 piece.now.header then Phase.Done else Phase.Head) }
-        ensures onward { WhateverLed (CheckerReached self.old) (λ front given point. LeadsBetween
+        ensures onward { ForEachInput (CheckerReached self.old) (λ front given point. IsReachableBetween
             (CheckerReached self.new) (front ++ passed bytes.now piece.now) (given ++ record_of piece.now ∷ [])) }
     {
         // For the proof alone.
         format_laws(&self.limits);
         let taken = bytes.len() - piece.rest.len();
-        let place = self.state.place.behind_record(&self.limits);
-        self.state.go_behind(&self.limits, place, piece.is_last());
+        let place = self.state.place.after_record(&self.limits);
+        self.state
+            .advance_past(&self.limits, place, piece.is_last());
         self.taken += taken as u64;
     }
 
@@ -261,7 +262,7 @@ impl<L: RecordLanguage> Checker<L> {
         ensures some { 0 < result }
         ensures most { result ≤ length bytes.now }
         ensures taken { self.new.taken ≡ self.old.taken + result }
-        ensures onward { WhateverLed (CheckerReached self.old) (λ front given point.
+        ensures onward { ForEachInput (CheckerReached self.old) (λ front given point.
             (self.new.taken ≡ length (front ++ take result bytes.now))
             × Onward L.RecordLanguage self.new.limits self.new.state front given point (take result bytes.now)) }
     {

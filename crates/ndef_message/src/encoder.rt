@@ -13,16 +13,16 @@ use crate::stepping::{fill, is_whole, rest_of};
 use ndef_value::{Message, Record};
 use std::marker::Model;
 
-/// Where writing in steps is in a message.
+/// The position of a writer in a message.
 #[derive(Clone, Copy, Debug)]
 struct Spot {
     /// The record, counted from 0.
     index: usize,
-    /// How much of it is written.
+    /// The progress in that record.
     progress: Progress,
 }
 
-/// What a step leaves.
+/// The result of a step.
 #[derive(Clone, Copy)]
 struct Filled {
     spot: Spot,
@@ -30,7 +30,7 @@ struct Filled {
     count: usize,
 }
 
-/// How a record is written.
+/// Returns the plan by which a record is written.
 fn plan_of(record: &Record, first: bool, last: bool, form: Form, size: Option<u32>) -> RecordPlan
     ensures value { result ≡ plan_of form size first last record.now }
     ensures can { CanBeWritten result }
@@ -146,8 +146,8 @@ impl<'a> Model for Encoder<'a> {
 }
 
 impl<'a> Encoder<'a> {
-    /// Begins the message, each record in one chunk, or in chunks of `size` payload bytes and a last one of what is
-    /// left (NDEF 1.0, chunked payloads). The bytes are those that `encode` and `encode_chunked` return.
+    /// Begins the message, each record in one chunk, or in chunks of `size` payload bytes and a last one of the rest
+    /// (NDEF 1.0, chunked payloads). The bytes are those that `encode` and `encode_chunked` return.
     pub fn new(message: &'a Message, form: Form, size: Option<u32>) -> Encoder<'a>
         requires { ForSome size (λ n. 1 ≤ n) }
         ensures { result ≡ cut_octets form size message.now }

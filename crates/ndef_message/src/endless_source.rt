@@ -14,7 +14,7 @@ use std::marker::Model;
 /// doesn't.
 #[derive(Debug, Drop)]
 pub struct EndlessSource<'a> {
-    /// What is left of the front, or of the pattern.
+    /// The rest of the front, or of the pattern.
     rest: &'a [u8],
     pattern: &'a [u8],
     shown: usize,
@@ -67,7 +67,7 @@ impl<'a> Source for EndlessSource<'a> {
         ensures* after_borrow { sem 𝓛 (Rests (the_row (record { mir = named 1; lft = [] })) self.entry (λ new.
             Filled (state_of None self.old.taken false) (state_of None new.taken false) new.shown result
             × (new.rest ≡ shown_next self.old) × (new.pattern ≡ self.old.pattern))) }
-        // What is left of the front, or of the pattern, which starts again where nothing is left.
+        // The rest of the front, or of the pattern, which starts again where nothing is left.
         ensures next { IsOkAnd result (λ s. s.now ≡ shown_next self.old) }
         ensures some { IfOk result (λ s. s.now ≢ []) }
     {

@@ -90,7 +90,7 @@ impl<'a> Sink for FailingSink<'a> {
         ensures mark { MarkAfter self.old.failed self.new.failed bytes.now result }
         // It fails exactly where it stops, or has failed.
         ensures fails { IsErr result ↔ is_stopped self.old ≡ true }
-        // Else it takes as many as it may and has room for.
+        // Else it takes as many bytes as it may and can hold.
         ensures count { IfOk result (λ n. n ≡ most_of self.old (length bytes.now)) }
         ensures value { self.new ≡ record self.old { written = self.new.written; failed = self.new.failed } }
     {

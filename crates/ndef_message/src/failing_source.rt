@@ -11,7 +11,7 @@ use crate::slice_source::cut_after;
 use crate::source::{Source, SourceFault};
 use std::marker::Model;
 
-/// The bytes of a slice up to a place, each `fill` going up to the next cut after what was taken.
+/// The bytes of a slice up to a place, each `fill` going up to the next cut after the bytes that were taken.
 /// Only these are to come: once they are taken, each `fill` is a fault. So a test lets each read of a
 /// run fail in turn.
 #[derive(Debug, Drop)]
@@ -80,7 +80,7 @@ impl<'a> Source for FailingSource<'a> {
         ensures* after_borrow { sem 𝓛 (Rests (the_row (record { mir = named 1; lft = [] })) self.entry (λ new.
             Filled (slice_state self.old.slice self.old.failed) (slice_state new.slice new.failed)
             new.slice.shown result × ShowsAlone self.old.slice new.slice)) }
-        // It goes up to the next cut after what was taken.
+        // It goes up to the next cut after the bytes that were taken.
         ensures cut { IfOk result (λ s. s.now ≡ up_to_cut self.old.slice) }
         // It fails exactly where no bytes are to come.
         ensures fails { IsErr result ↔ slice_coming self.old.slice ≡ Some [] }

@@ -8,16 +8,16 @@ use crate::{Source, SourceFault};
 use std::alloc::{AllocError, Global};
 use thiserror::Error;
 
-/// Why a source wasn't read to its end.
+/// The reason why a source wasn't read to its end.
 #[derive(Clone, Copy, Debug, Drop, PartialEq, Eq, Hash, Error)]
 pub enum InputError {
     /// The source failed, and fails from then on.
     #[error("reading failed")]
     ReadFault,
-    /// More bytes come than were asked for; as many as were asked for were taken.
+    /// More bytes come than were requested; as many as were requested were taken.
     #[error("the input is too long")]
     TooLong,
-    /// An allocation failed for a byte that comes next. Fewer bytes than were asked for were taken.
+    /// An allocation failed for a byte that comes next. Fewer bytes than were requested were taken.
     #[error("no memory")]
     NoMemory,
 }

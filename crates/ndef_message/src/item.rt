@@ -106,7 +106,7 @@ impl<'a> Item<'a> {
         Pieces::new(self.bytes)
     }
 
-    /// The payload, where the record has one piece; none where it is chunked, even if a single one of its
+    /// The payload, where the record has one piece; None if it is chunked, even if a single one of its
     /// pieces has bytes.
     pub fn whole(&self) -> Option<&'a [u8]>
         ensures { option_map (λ s. s.now) result ≡ only_payload (pieces self.now) }

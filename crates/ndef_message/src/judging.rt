@@ -19,7 +19,7 @@ fn is_lone(input: &[u8]) -> bool {
     }
 }
 
-/// Where and why the input is refused, if that is at its first octet for what its flags or its type name format say.
+/// Returns the refusal of the input, if its flags or its type name format make its first octet refused.
 fn refused_at_once<L: RecordLanguage>(limits: &Limits, input: &[u8]) -> Option<Refusal>
     ensures { IfSome result (Refuses L.payloads L.reasons limits.now input.now) }
 {

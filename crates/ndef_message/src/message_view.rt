@@ -17,7 +17,7 @@ pub struct View<'a> {
     bytes: &'a [u8],
     /// The number of its records.
     records: u32,
-    /// How reserved values were read.
+    /// The way in which reserved values were read.
     profile: Profile,
 }
 
@@ -59,7 +59,7 @@ impl<'a> View<'a> {
         self.records
     }
 
-    /// How reserved values were read: the profile of the limits that were given.
+    /// Returns the profile of the limits that were given, by which reserved values were read.
     pub fn profile(&self) -> Profile
         ensures { result ≡ self.now.profile }
     {

@@ -13,7 +13,7 @@ use ndef_value::{Limits, Refusal};
 /// Views the message with which the bytes begin, without copying or memory (NDEF 1.0, messages).
 ///
 /// It is within the limits, and the payloads of its records are of their kinds in the language `L`:
-/// `Typed` of ndef_nest looks into the payloads that the standards define, `Opaque` of ndef_lang into none.
+/// `Typed` of ndef_nest validates the payloads that the standards define, `Opaque` of ndef_lang none.
 /// Bytes that begin with no such message are refused at the first byte after which no continuation is
 /// one, or where they end too early, with the reason.
 pub fn view<L: RecordLanguage>(bytes: &[u8], limits: Limits) -> Result<View<'_>, Refusal>

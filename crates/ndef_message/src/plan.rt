@@ -1,4 +1,4 @@
-//! What is known of a record before its payload.
+//! The properties of a record that are given before its payload.
 
 use crate::Form;
 use ndef_value::Tnf;
@@ -19,13 +19,13 @@ pub struct RecordPlan {
     pub first: bool,
     /// Whether the record is the last of its message.
     pub last: bool,
-    /// Which chunks are written in the short form.
+    /// The form that decides which chunks are short.
     pub form: Form,
     /// The payload bytes of each chunk but the last, at least 1; with `None` the record is one chunk.
     pub size: Option<u32>,
 }
 
-/// How much of a record is written.
+/// The part of a record that is written.
 #[derive(Clone, Copy, Debug, PartialEq, Eq, Hash)]
 pub struct Progress {
     /// The bytes of the payload that are written.

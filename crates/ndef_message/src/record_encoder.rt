@@ -27,8 +27,8 @@ impl Model for RecordEncoder {
     ghost invariant = { λ e. IsBegun (record { plan = e.plan; progress = e.progress }) };
 }
 
-/// A type, an id or a part of a payload that isn't of the record: the type or the id has another length than the plan
-/// says, or the part is longer than what is left of the payload.
+/// A type, an id or a part of a payload that isn't of the record: the type or the id has another length than in the
+/// plan, or the part is longer than the rest of the payload.
 #[derive(Clone, Copy, Debug, Drop, PartialEq, Eq, Hash, Error)]
 #[error("the type, the id or the payload has another length than was said")]
 pub struct OtherLength;
@@ -49,8 +49,8 @@ impl RecordEncoder {
         Some(RecordEncoder { plan, progress })
     }
 
-    /// Goes on with a record that is written up to here, as `progress` said of another encoder. `None` where `new`
-    /// answers so, or where no encoder of the record says so.
+    /// Returns an encoder that continues a record at the `progress` of another encoder. `None` if `new` returns it for
+    /// this plan, or if no encoder of the record has this progress.
     pub fn resume(plan: RecordPlan, progress: Progress) -> Option<RecordEncoder>
         requires { ForSome plan.size (λ n. 1 ≤ n) }
         ensures none { IsNone result ↔ ¬ IsBegun (record { plan = plan; progress = progress }) }
@@ -69,7 +69,7 @@ impl RecordEncoder {
         self.plan
     }
 
-    /// How much of the record is written: of a head, a type and an id at most 517 bytes.
+    /// Returns the part of the record that is written: of a head, a type and an id at most 517 bytes.
     pub fn progress(&self) -> Progress
         ensures value { result ≡ self.now.progress }
         ensures is { IsBegun self.now }
@@ -95,8 +95,8 @@ impl RecordEncoder {
     }
 
     /// Writes the next bytes of the record to the front of the buffer, as many as there are and fit, and returns their
-    /// number. `part` is the payload from byte `taken()` on, or as much of it as is at hand; `taken()` then says how
-    /// far it was taken. `OtherLength` where the type, the id or the part isn't of the record: nothing changes.
+    /// number. `part` is the payload from byte `taken()` on, or as much of it as is at hand; `taken()` then returns how
+    /// far it was taken. `OtherLength` if the type, the id or the part isn't of the record: nothing changes.
     pub fn next(
         &mut self,
         kind: &[u8],

@@ -8,7 +8,7 @@ use ndef_lang::{RecordLanguage, TypeName};
 use ndef_piece::{Head, HeadReader, Step, WholePiece};
 use ndef_value::{Limits, Reason, Refusal};
 
-/// What a checker keeps.
+/// The state of a checker.
 #[derive(Debug, Drop)]
 pub(crate) struct State<L: RecordLanguage> {
     pub(crate) place: Place,
@@ -20,9 +20,9 @@ pub(crate) struct State<L: RecordLanguage> {
 }
 
 impl<L: RecordLanguage> State<L> {
-    ghost use Rattle.ndef_message.specs.Machine.Fronts.{Leads, SomeLed, WhateverLed};
-    ghost use Rattle.ndef_message.specs.Machine.State.{Stands, SettlesBehind, EntersBehind, BeginsBehind, GoesBehind, Onward, InBody, SomeBody, WholeHead, SomeWhole, IsWithinHead, CanGoOn};
-    ghost use Rattle.ndef_message.specs.Machine.Accepted.{BeginsWith, IsAtChunk, IsBehind, IsBehindChunks, IsFresh};
+    ghost use Rattle.ndef_message.specs.Machine.Fronts.{IsReachable, SomeLed, ForEachInput};
+    ghost use Rattle.ndef_message.specs.Machine.State.{IsConsistentAt, SettlesAfter, EntersAfter, BeginsAfter, AdvancesPast, Onward, InBody, SomeBody, WholeHead, SomeWhole, IsWithinHead, CanGoOn};
+    ghost use Rattle.ndef_message.specs.Machine.Accepted.{BeginsWith, IsAtChunk, IsAfter, IsAfterChunks, IsFresh};
 
     /// Whether a record may begin here, and no octet of it has come.
     fn is_fresh(&self) -> bool
@@ -32,9 +32,9 @@ impl<L: RecordLanguage> State<L> {
     }
 
     /// Continues after whole records, where another may begin or the message ends.
-    pub(crate) fn go_behind(&mut self, limits: &Limits, place: Place, last: bool)
+    pub(crate) fn advance_past(&mut self, limits: &Limits, place: Place, last: bool)
         requires { place.inside ≡ false }
-        ensures { IsBehind limits.now self.new place last }
+        ensures { IsAfter limits.now self.new place last }
     {
         self.place = place;
         if last {
@@ -50,8 +50,8 @@ impl<L: RecordLanguage> State<L> {
     fn take_records(&mut self, limits: &Limits, bytes: &[u8]) -> usize
         ensures within { result ≤ length bytes.now }
         ensures none { result ≡ 0 → self.new.phase ≡ self.old.phase }
-        ensures onward { WhateverLed (Stands L.RecordLanguage limits.now self.old) (λ front given point.
-            Leads (Stands L.RecordLanguage limits.now self.new) (front ++ take result bytes.now)) }
+        ensures onward { ForEachInput (IsConsistentAt L.RecordLanguage limits.now self.old) (λ front given point.
+            IsReachable (IsConsistentAt L.RecordLanguage limits.now self.new) (front ++ take result bytes.now)) }
     {
         // For the proof alone.
         format_laws(limits);
@@ -60,7 +60,7 @@ impl<L: RecordLanguage> State<L> {
         }
         let (taken, place, last) = accepted_records::<L>(limits, self.place, bytes);
         if taken > 0 {
-            self.go_behind(limits, place, last);
+            self.advance_past(limits, place, last);
         }
         taken
     }
@@ -77,9 +77,9 @@ impl<L: RecordLanguage> State<L> {
     }
 
     /// Continues after pieces of an open run, where another begins.
-    fn go_behind_chunks(&mut self, limits: &Limits, place: Place)
+    fn advance_past_chunks(&mut self, limits: &Limits, place: Place)
         requires { place.first ≡ false }
-        ensures { IsBehindChunks limits.now self.old self.new place }
+        ensures { IsAfterChunks limits.now self.old self.new place }
     {
         self.place = place;
         self.reader = HeadReader::new(place.spot(limits.profile()));
@@ -91,8 +91,8 @@ impl<L: RecordLanguage> State<L> {
     fn take_chunks(&mut self, limits: &Limits, bytes: &[u8]) -> usize
         ensures within { result ≤ length bytes.now }
         ensures phase { self.new.phase ≡ self.old.phase }
-        ensures onward { WhateverLed (Stands L.RecordLanguage limits.now self.old) (λ front given point.
-            Leads (Stands L.RecordLanguage limits.now self.new) (front ++ take result bytes.now)) }
+        ensures onward { ForEachInput (IsConsistentAt L.RecordLanguage limits.now self.old) (λ front given point.
+            IsReachable (IsConsistentAt L.RecordLanguage limits.now self.new) (front ++ take result bytes.now)) }
     {
         // For the proof alone.
         format_laws(limits);
@@ -101,7 +101,7 @@ impl<L: RecordLanguage> State<L> {
         }
         let (taken, place) = accepted_chunks(limits, self.place, bytes);
         if taken > 0 {
-            self.go_behind_chunks(limits, place);
+            self.advance_past_chunks(limits, place);
         }
         taken
     }
@@ -111,8 +111,8 @@ impl<L: RecordLanguage> State<L> {
     pub(crate) fn take_pieces(&mut self, limits: &Limits, bytes: &[u8]) -> usize
         ensures within { result ≤ length bytes.now }
         ensures none { result ≡ 0 → self.new.phase ≡ self.old.phase }
-        ensures onward { WhateverLed (Stands L.RecordLanguage limits.now self.old) (λ front given point.
-            Leads (Stands L.RecordLanguage limits.now self.new) (front ++ take result bytes.now)) }
+        ensures onward { ForEachInput (IsConsistentAt L.RecordLanguage limits.now self.old) (λ front given point.
+            IsReachable (IsConsistentAt L.RecordLanguage limits.now self.new) (front ++ take result bytes.now)) }
     {
         if self.place.inside {
             return self.take_chunks(limits, bytes);
@@ -138,13 +138,13 @@ impl<L: RecordLanguage> State<L> {
     /// Takes the next bytes of one field, after `at` others, up to the first that is refused;
     /// returns the number taken, including a refused one.
     pub(crate) fn step(&mut self, limits: &Limits, at: u64, bytes: &[u8]) -> usize
-        requires led { ∥ SomeLed (Stands L.RecordLanguage limits.now self.old) ∥₁ }
+        requires led { ∥ SomeLed (IsConsistentAt L.RecordLanguage limits.now self.old) ∥₁ }
         requires far { at ≤ 2 ^ 60 }
         requires some { 0 < length bytes.now }
         ensures some { 0 < result }
         ensures most { result ≤ length bytes.now }
         ensures few { result < 2 ^ 32 }
-        ensures onward { WhateverLed (Stands L.RecordLanguage limits.now self.old) (λ front given point.
+        ensures onward { ForEachInput (IsConsistentAt L.RecordLanguage limits.now self.old) (λ front given point.
             at ≡ length front → self.old.phase ≢ Phase.Done
             → Onward L.RecordLanguage limits.now self.new front given point (take result bytes.now)) }
     {
@@ -172,17 +172,17 @@ impl<L: RecordLanguage> State<L> {
         }
     }
 
-    /// Takes the head of a piece at once, if none of it has come, the bytes show that it is whole and may stand here,
+    /// Takes the head of a piece at once, if none of it has come, the bytes show that it is whole and may occur here,
     /// and the payload can be completed after it; returns its number of octets. Else nothing changes.
     fn take_head(&mut self, limits: &Limits, bytes: &[u8]) -> Option<usize>
         requires phase { self.old.phase ≡ Phase.Head }
-        requires led { ∥ SomeLed (Stands L.RecordLanguage limits.now self.old) ∥₁ }
+        requires led { ∥ SomeLed (IsConsistentAt L.RecordLanguage limits.now self.old) ∥₁ }
         ensures none { IfNone result (self.new ≡ self.old) }
         ensures some { IfSome result (λ count. 0 < count) }
         ensures most { IfSome result (λ count. count ≤ length bytes.now) }
         ensures few { IfSome result (λ count. count < 2 ^ 32) }
         ensures onward { IfSome result (λ count.
-            WhateverLed (Stands L.RecordLanguage limits.now self.old) (λ front given point.
+            ForEachInput (IsConsistentAt L.RecordLanguage limits.now self.old) (λ front given point.
             Onward L.RecordLanguage limits.now self.new front given point (take count bytes.now))) }
     {
         // For the proof alone.
@@ -197,15 +197,15 @@ impl<L: RecordLanguage> State<L> {
         if !self.payload.fits(u64::from(left), most) {
             return None;
         }
-        self.settle(limits, head, 0, left);
+        self.advance_field(limits, head, 0, left);
         Some(count)
     }
 
     /// Takes an octet of the head of a piece.
     fn in_head(&mut self, limits: &Limits, at: u64, byte: u8)
         requires phase { self.old.phase ≡ Phase.Head }
-        requires led { ∥ SomeLed (Stands L.RecordLanguage limits.now self.old) ∥₁ }
-        ensures onward { WhateverLed (Stands L.RecordLanguage limits.now self.old) (λ front given point.
+        requires led { ∥ SomeLed (IsConsistentAt L.RecordLanguage limits.now self.old) ∥₁ }
+        ensures onward { ForEachInput (IsConsistentAt L.RecordLanguage limits.now self.old) (λ front given point.
             at ≡ length front
             → Onward L.RecordLanguage limits.now self.new front given point (byte ∷ [])) }
     {
@@ -222,7 +222,7 @@ impl<L: RecordLanguage> State<L> {
                     };
                 }
             }
-            Step::Head(head) => self.behind_head(limits, at, head),
+            Step::Head(head) => self.after_head(limits, at, head),
             Step::Refused(reason) => self.phase = Phase::Refused {
                 refusal: Refusal { at, reason },
             },
@@ -245,15 +245,15 @@ impl<L: RecordLanguage> State<L> {
     }
 
     /// Continues after a whole head.
-    fn behind_head(&mut self, limits: &Limits, at: u64, head: Head)
+    fn after_head(&mut self, limits: &Limits, at: u64, head: Head)
         requires led { ∥ SomeWhole L.RecordLanguage limits.now self.old head ∥₁ }
-        ensures entered { GoesBehind L.RecordLanguage limits.now self.new at
+        ensures entered { AdvancesPast L.RecordLanguage limits.now self.new at
             (WholeHead L.RecordLanguage limits.now self.old head) }
     {
         // For the proof alone.
         format_laws(limits);
         if self.place.inside {
-            self.enter(limits, at, head, 0, head.payload_length);
+            self.start_body(limits, at, head, 0, head.payload_length);
         } else {
             self.begin_record(limits, head);
         }
@@ -262,7 +262,7 @@ impl<L: RecordLanguage> State<L> {
     /// Continues after the whole head of a record's first piece, after which any payload can be completed.
     fn begin_record(&mut self, limits: &Limits, head: Head)
         requires outside { self.old.place.inside ≡ false }
-        ensures stands { BeginsBehind L.RecordLanguage limits.now self.new
+        ensures stands { BeginsAfter L.RecordLanguage limits.now self.new
             (WholeHead L.RecordLanguage limits.now self.old head) }
     {
         // For the proof alone.
@@ -277,20 +277,20 @@ impl<L: RecordLanguage> State<L> {
         }
         self.payload = L::start(head.tnf, &[], limits.records(), limits.profile());
         let id_left = head.id_length.unwrap_or(0);
-        self.settle(limits, head, id_left, head.payload_length);
+        self.advance_field(limits, head, id_left, head.payload_length);
     }
 
     /// Takes octets of PAYLOAD, no more than the piece still has, up to the first that is refused;
     /// returns the number taken, including a refused one.
     fn in_payload(&mut self, limits: &Limits, at: u64, head: Head, left: u32, bytes: &[u8]) -> usize
         requires phase { self.old.phase ≡ Phase.Payload head left }
-        requires led { ∥ SomeLed (Stands L.RecordLanguage limits.now self.old) ∥₁ }
+        requires led { ∥ SomeLed (IsConsistentAt L.RecordLanguage limits.now self.old) ∥₁ }
         requires far { at ≤ 2 ^ 60 }
         requires some { 0 < length bytes.now }
         requires enough { length bytes.now ≤ left }
         ensures some { 0 < result }
         ensures most { result ≤ length bytes.now }
-        ensures onward { WhateverLed (Stands L.RecordLanguage limits.now self.old) (λ front given point.
+        ensures onward { ForEachInput (IsConsistentAt L.RecordLanguage limits.now self.old) (λ front given point.
             at ≡ length front
             → Onward L.RecordLanguage limits.now self.new front given point (take result bytes.now)) }
     {
@@ -307,7 +307,7 @@ impl<L: RecordLanguage> State<L> {
             };
             return count + 1;
         }
-        self.settle(limits, head, 0, left - count as u32);
+        self.advance_field(limits, head, 0, left - count as u32);
         count
     }
 
@@ -316,25 +316,25 @@ impl<L: RecordLanguage> State<L> {
         requires phase { self.old.phase ≡ Phase.Id head left }
         requires enough { length bytes.now ≤ left }
         ensures all { result ≡ length bytes.now }
-        ensures onward { WhateverLed (Stands L.RecordLanguage limits.now self.old) (λ front given point.
+        ensures onward { ForEachInput (IsConsistentAt L.RecordLanguage limits.now self.old) (λ front given point.
             Onward L.RecordLanguage limits.now self.new front given point bytes.now) }
     {
         // For the proof alone.
         format_laws(limits);
         let count = bytes.len();
-        self.settle(limits, head, left - count as u8, head.payload_length);
+        self.advance_field(limits, head, left - count as u8, head.payload_length);
         count
     }
 
     /// Takes octets of TYPE, no more than the piece still has: all of them, the last of which may be refused.
     fn in_type(&mut self, limits: &Limits, at: u64, head: Head, left: u8, bytes: &[u8]) -> usize
         requires phase { self.old.phase ≡ Phase.Type head left }
-        requires led { ∥ SomeLed (Stands L.RecordLanguage limits.now self.old) ∥₁ }
+        requires led { ∥ SomeLed (IsConsistentAt L.RecordLanguage limits.now self.old) ∥₁ }
         requires far { at ≤ 2 ^ 60 }
         requires some { 0 < length bytes.now }
         requires enough { length bytes.now ≤ left }
         ensures all { result ≡ length bytes.now }
-        ensures onward { WhateverLed (Stands L.RecordLanguage limits.now self.old) (λ front given point.
+        ensures onward { ForEachInput (IsConsistentAt L.RecordLanguage limits.now self.old) (λ front given point.
             at ≡ length front
             → Onward L.RecordLanguage limits.now self.new front given point bytes.now) }
     {
@@ -357,15 +357,15 @@ impl<L: RecordLanguage> State<L> {
         );
         let last = at + (count - 1) as u64;
         let id_left = head.id_length.unwrap_or(0);
-        self.enter(limits, last, head, id_left, head.payload_length);
+        self.start_body(limits, last, head, id_left, head.payload_length);
         count
     }
 
     /// Continues where `id_left` octets of the id and `left` of the payload of a piece are left, if
     /// these can complete the payload; else the octet at `at`, the last one, doesn't fit.
-    fn enter(&mut self, limits: &Limits, at: u64, head: Head, id_left: u8, left: u32)
+    fn start_body(&mut self, limits: &Limits, at: u64, head: Head, id_left: u8, left: u32)
         requires led { ∥ SomeBody L.RecordLanguage limits.now self.old head id_left left ∥₁ }
-        ensures entered { EntersBehind L.RecordLanguage limits.now self.new at
+        ensures entered { EntersAfter L.RecordLanguage limits.now self.new at
             (InBody L.RecordLanguage limits.now self.old head id_left left) }
     {
         // For the proof alone.
@@ -374,7 +374,7 @@ impl<L: RecordLanguage> State<L> {
             .payload
             .fits(u64::from(left), self.place.most_left(&head, left))
         {
-            self.settle(limits, head, id_left, left);
+            self.advance_field(limits, head, id_left, left);
         } else {
             self.phase = Phase::Refused {
                 refusal: Refusal {
@@ -386,8 +386,8 @@ impl<L: RecordLanguage> State<L> {
     }
 
     /// Continues where `id_left` octets of the id and `left` of the payload of a piece are left.
-    fn settle(&mut self, limits: &Limits, head: Head, id_left: u8, left: u32)
-        ensures stands { SettlesBehind L.RecordLanguage limits.now self.new
+    fn advance_field(&mut self, limits: &Limits, head: Head, id_left: u8, left: u32)
+        ensures stands { SettlesAfter L.RecordLanguage limits.now self.new
             (InBody L.RecordLanguage limits.now self.old head id_left left) }
     {
         // For the proof alone.

@@ -22,10 +22,10 @@ struct Chunk {
     ends: bool,
 }
 
-/// What a step leaves.
+/// The result of a step.
 #[derive(Clone, Copy)]
 pub(crate) struct Stepped {
-    /// How much of the record is written then.
+    /// The progress in the record after the step.
     pub(crate) progress: Progress,
     /// The bytes that went out.
     pub(crate) count: usize,
@@ -88,14 +88,14 @@ fn put(bytes: &[u8], buffer: &mut [u8], at: usize) -> usize
     count
 }
 
-/// What is left of bytes of which some are out.
+/// Returns the rest of some bytes, of which the first `out` are written.
 pub(crate) fn rest_of(bytes: &[u8], out: usize) -> &[u8]
     ensures { result.now ≡ drop out bytes.now }
 {
     &bytes[out.min(bytes.len())..]
 }
 
-/// Puts what is left of a head, a type and an id, as far as it fits.
+/// Puts the rest of a head, a type and an id, as far as it fits.
 fn put_front(head: &[u8], kind: &[u8], id: &[u8], out: usize, buffer: &mut [u8], at: usize) -> usize
     requires { at ≤ length buffer.old }
     ensures count { result ≡ min (length (drop out (head.now ++ (kind.now ++ id.now)))) (length buffer.old - at) }
@@ -109,7 +109,7 @@ fn put_front(head: &[u8], kind: &[u8], id: &[u8], out: usize, buffer: &mut [u8],
     of_head + of_kind + of_id
 }
 
-/// Puts what is left of the head, type and id of a chunk, as far as it fits. `out` of their bytes are out.
+/// Puts the rest of the head, type and id of a chunk, as far as it fits. `out` of their bytes are out.
 fn put_chunk_front(
     plan: &RecordPlan,
     chunk: Chunk,
@@ -137,7 +137,7 @@ fn put_chunk_front(
     }
 }
 
-/// How much of a record is written after this many bytes of a chunk's front and of its payload.
+/// Returns the progress in a record after this many bytes of a chunk's front and of its payload.
 fn advanced(chunk: Chunk, progress: Progress, of_front: usize, of_part: usize) -> Progress
     requires taken { progress.taken + of_part ≤ 4294967295 }
     requires front { progress.head + of_front ≤ 4294967295 }
@@ -152,7 +152,7 @@ fn advanced(chunk: Chunk, progress: Progress, of_front: usize, of_part: usize) -
     }
 }
 
-/// Writes what is left of the chunk that is begun, as far as it fits and the part has it.
+/// Writes the rest of the chunk that is begun, as far as it fits and the part has it.
 fn step(
     plan: &RecordPlan,
     progress: Progress,

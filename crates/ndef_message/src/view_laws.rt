@@ -1,7 +1,7 @@
-//! What holds of views, whoever makes them.
+//! Properties of views, for every caller.
 ghost use Rattle.ndef_message.specs.Views.{NeverRefusedInView, OneView};
 
-use crate::places_are_told;
+use crate::places_are_exact;
 use ndef_lang::RecordLanguage;
 use ndef_value::one_meaning;
 
@@ -12,5 +12,5 @@ pub fn views_are_exact<L: RecordLanguage>()
     ensures one { OneView L.payloads L.reasons }
 {
     one_meaning();
-    places_are_told::<L>();
+    places_are_exact::<L>();
 }

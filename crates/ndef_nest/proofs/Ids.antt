@@ -3,7 +3,7 @@ use Rattle.std.proofs.Common.{◌≡◌, ℕ, ◌-◌, ◌≤◌, ◌↔◌, Lis
 use Rattle.ndef_value.specs.ListLaws.{zeros, zeros_length, zeros_octets}
 use Rattle.ndef_format.specs.Records.{AreOctets}
 use Rattle.ndef_lang.specs.Language.{Continues, PassesBetween, StepsAll}
-use Rattle.ndef_lang.specs.StepLaws.{behind_passes, steps_whole}
+use Rattle.ndef_lang.specs.StepLaws.{after_passes, steps_whole}
 use Rattle.ndef_nest.specs.Machine.Demands.{IsBody}
 use Rattle.ndef_nest.proofs.Steps.{after_id, chain}
 
@@ -45,4 +45,4 @@ module _ (member tail : List ℕ → Type 0) where
       → StepsAll (IsBody member id payload tail) new t lo hi (length t)
   ids_taken new id payload t lo hi are few f p =
       steps_whole (IsBody member id payload tail) new t lo hi (λ r. chain (f r) (ids_follow id payload t are few r))
-      (behind_passes (IsBody member (id - length t) payload tail) new [] (lo - length t) (hi - length t) f (ids_pass id payload lo hi (length t) few p))
+      (after_passes (IsBody member (id - length t) payload tail) new [] (lo - length t) (hi - length t) f (ids_pass id payload lo hi (length t) few p))

@@ -5,7 +5,7 @@ use Rattle.ndef_value.specs.ListLaws.{octets_append}
 use Rattle.ndef_format.specs.Records.{AreOctets, octets, tnf_of}
 use Rattle.ndef_format.specs.declared.profile.Profile.{Profile}
 use Rattle.ndef_format.specs.declared.reason.Reason.{Reason}
-use Rattle.ndef_lang.specs.Language.{Continues, Reaches, PassesBetween, Behind, StepsAll}
+use Rattle.ndef_lang.specs.Language.{Continues, Reaches, PassesBetween, After, StepsAll}
 use Rattle.ndef_format.specs.Reasons.{IsLowest}
 use Rattle.ndef_format.specs.PayloadReasons.{PayloadReason}
 use Rattle.ndef_lang.specs.Machine.Leaf.{CompletesLeaf, LeafReached, leaf_lengths}
@@ -25,7 +25,7 @@ use Rattle.ndef_nest.specs.Machine.Reached.{IsInBody}
 use Rattle.ndef_nest.specs.Machine.BodyLaws.{payload_step, body_as, body_end}
 use Rattle.ndef_nest.specs.Machine.SpanLaws.{leaf_at}
 use Rattle.ndef_nest.proofs.Reaching.{stands_in_payload}
-use Rattle.ndef_nest.proofs.Reasons.{told_of_payload}
+use Rattle.ndef_nest.proofs.Reasons.{reason_of_payload}
 use Rattle.ndef_nest.proofs.Steps.{chain}
 
 -- ---- what completes them
@@ -68,8 +68,8 @@ body_steps member next tail payload bytes lo hi count few steps p =
     refusing : count < length bytes → length (take (count + 1) bytes) ≡ count + 1 → {r : List ℕ} → IsBody next 0 (payload - length (take (count + 1) bytes)) tail r → ⊥
     refusing l e y = let n = y.length in steps.refused l (record { rest = y.content; passed = y.belongs; least = omega arith; most = omega arith })
 
-    fitting : PassesBetween (Behind member (take count bytes)) (payload - count) (payload - count) → {r : List ℕ} → IsBody member 0 payload tail r → lo ≤ length r → length r ≤ hi → length (take count bytes) ≡ count
-        → PassesBetween (Behind (IsBody member 0 payload tail) (take count bytes)) (lo - count) (hi - count)
+    fitting : PassesBetween (After member (take count bytes)) (payload - count) (payload - count) → {r : List ℕ} → IsBody member 0 payload tail r → lo ≤ length r → length r ≤ hi → length (take count bytes) ≡ count
+        → PassesBetween (After (IsBody member 0 payload tail) (take count bytes)) (lo - count) (hi - count)
     fitting c x l h e =
         let n0 = x.id_length in
         let n1 = x.length in
@@ -143,11 +143,11 @@ payload_come c body leaf left records m t none are few step x = record {
     regroup d h k i z w = simp append_assoc
 
 -- why the octet after these is refused
-pub told_behind_payload : (one : OneField) (c : Context) (body : Body) (records : ℕ) (m t : List ℕ) (b : ℕ) (r : Reason) → body.id ≡ 0 → AreOctets t → length t < body.payload
+pub reason_after_payload : (one : OneField) (c : Context) (body : Body) (records : ℕ) (m t : List ℕ) (b : ℕ) (r : Reason) → body.id ≡ 0 → AreOctets t → length t < body.payload
     → ((kind : Kind) (profile : Profile) (s : List ℕ) → LeafReached body.leaf kind profile s → IsLowest (PayloadReason kind profile (s ++ t) b) r)
     → IsInBody c body records m → IsLowest (MessageReason c.table records c.profile (m ++ t) b) r
-told_behind_payload one c body records m t b r none are few why x =
-    told_of_payload one c.table records c.profile (m ++ t) b x.done x.fields x.name x.id_octets (x.content ++ t) r (stands_in_payload c body records m t none are few x)
+reason_after_payload one c body records m t b r none are few why x =
+    reason_of_payload one c.table records c.profile (m ++ t) b x.done x.fields x.name x.id_octets (x.content ++ t) r (stands_in_payload c body records m t none are few x)
     (why (kind_in c.table (tnf_of x.fields.tnf) x.name) c.profile x.content x.leaf_is)
 
 -- ---- a front of the octets
@@ -160,7 +160,7 @@ steps_front old new bytes lo hi n count l less s =
     record {
       within = omega arith;
       stepped = subst (Continues old new) e1 s.stepped;
-      fits = subst (λ x. PassesBetween (Behind old x) (lo - count) (hi - count)) e0 s.fits;
+      fits = subst (λ x. PassesBetween (After old x) (lo - count) (hi - count)) e0 s.fits;
       refused = λ h. s.refused (omega (arith, length-take-le n bytes l));
     }
 

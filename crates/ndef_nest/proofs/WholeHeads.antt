@@ -7,7 +7,7 @@ use Rattle.std.proofs.lemmas.List.{length-take-le}
 use Rattle.ndef_format.specs.Records.{AreOctets}
 use Rattle.ndef_format.specs.declared.profile.Profile.{Profile}
 use Rattle.ndef_piece.specs.declared.head.Head.{Head}
-use Rattle.ndef_piece.specs.Heads.{HeadsAreApart, IsWholeHead}
+use Rattle.ndef_piece.specs.Heads.{HeadsAreUnambiguous, IsWholeHead}
 use Rattle.ndef_piece.specs.Whole.{BeginWithHead}
 use Rattle.ndef_lang.specs.Language.{Continues, PassesBetween, Reaches, StepsAll}
 use Rattle.ndef_lang.specs.StepLaws.{steps_whole}
@@ -70,7 +70,7 @@ head_followed profile first records xs h some at = by_last h.last refl
         rw (e, l) refl
 
 -- what completes the message after a whole head is what continues it
-pub head_completes : (apart : HeadsAreApart) (c : Context) (first : Bool) (xs : List ℕ) (phase : NestPhase) (bytes : List ℕ) (h : Head) (count : ℕ) → IsBetween phase xs → 0 < c.records
+pub head_completes : (apart : HeadsAreUnambiguous) (c : Context) (first : Bool) (xs : List ℕ) (phase : NestPhase) (bytes : List ℕ) (h : Head) (count : ℕ) → IsBetween phase xs → 0 < c.records
     → BeginWithHead (nested_spot c.profile (is_first_octet phase first) c.records) bytes h count → Continues (Completes c first xs phase) (CompletesHeaded (fewer c) h) (take count bytes)
 head_completes apart c first xs phase bytes h count between some at r =
     let t = take count bytes in

@@ -16,7 +16,7 @@ use Rattle.ndef_nest.specs.declared.phase.Body.{Body}
 use Rattle.ndef_nest.specs.declared.phase.NestPhase.{NestPhase}
 use Rattle.ndef_nest.specs.declared.phase.NestPhase.TheVariants as phases
 use Rattle.ndef_nest.specs.Machine.Demands.{Allows, IsBody, Later, Tail, demand_after}
-use Rattle.ndef_nest.specs.Machine.Phases.{Completes, CompletesBehind, CompletesHeaded, IsSoundBehind, Suits, asking, meets_span, span_of}
+use Rattle.ndef_nest.specs.Machine.Phases.{Completes, CompletesAfter, CompletesHeaded, IsSoundAfter, Suits, asking, meets_span, span_of}
 use Rattle.ndef_nest.specs.Machine.Reached.{IsHeaded, IsInBody, IsReached}
 use Rattle.ndef_nest.specs.Machine.SpanLaws.{fits_exactly}
 use Rattle.ndef_nest.proofs.Ids.{ids_follow}
@@ -76,14 +76,14 @@ module _ (c : Context) (h : Head) (name ids content : List ℕ) (named : AreOcte
   }
 
 -- what completes the message there has lengths in the range
-pub behind_passes : (c : Context) (phase : NestPhase) (lo hi : ℕ) → Suits c → IsSoundBehind c phase → hi < 2 ^ 32 → IsTrue (meets_span (span_of c false [] phase) lo hi) → PassesBetween (CompletesBehind c phase) lo hi
-behind_passes c phases.Version lo hi s i small h = absurd (grind (arith, nat_tests))
-behind_passes c phases.Start lo hi s i small h = absurd (grind (arith, nat_tests))
-behind_passes c phases.Head lo hi s i small h = (fits_exactly c false [] phases.Head lo hi s i tt small).0 h
-behind_passes c (phases.Name n) lo hi s i small h = (fits_exactly c false [] (phases.Name n) lo hi s i tt small).0 h
-behind_passes c (phases.Body b) lo hi s i small h = (fits_exactly c false [] (phases.Body b) lo hi s i tt small).0 h
-behind_passes c phases.Ended lo hi s i small h = (fits_exactly c false [] phases.Ended lo hi s i tt small).0 h
-behind_passes c phases.Refused lo hi s i small h = (fits_exactly c false [] phases.Refused lo hi s i tt small).0 h
+pub after_passes : (c : Context) (phase : NestPhase) (lo hi : ℕ) → Suits c → IsSoundAfter c phase → hi < 2 ^ 32 → IsTrue (meets_span (span_of c false [] phase) lo hi) → PassesBetween (CompletesAfter c phase) lo hi
+after_passes c phases.Version lo hi s i small h = absurd (grind (arith, nat_tests))
+after_passes c phases.Start lo hi s i small h = absurd (grind (arith, nat_tests))
+after_passes c phases.Head lo hi s i small h = (fits_exactly c false [] phases.Head lo hi s i tt small).0 h
+after_passes c (phases.Name n) lo hi s i small h = (fits_exactly c false [] (phases.Name n) lo hi s i tt small).0 h
+after_passes c (phases.Body b) lo hi s i small h = (fits_exactly c false [] (phases.Body b) lo hi s i tt small).0 h
+after_passes c phases.Ended lo hi s i small h = (fits_exactly c false [] phases.Ended lo hi s i tt small).0 h
+after_passes c phases.Refused lo hi s i small h = (fits_exactly c false [] phases.Refused lo hi s i tt small).0 h
 
 -- the same in its bytes
 module _ (c : Context) (h : Head) (bytes : List ℕ) (n i p : ℕ) (are : AreOctets bytes) (within : n + i + p ≤ length bytes) (named : n ≡ h.kind_length) (ids : i ≡ unwrap_or h.id_length 0) (payload : p ≡ h.payload_length) where
@@ -119,7 +119,7 @@ module _ (c : Context) (h : Head) (bytes : List ℕ) (n i p : ℕ) (are : AreOct
       (record_comes c h (take n bytes) (take i (drop n bytes)) (take p (drop (n + i) bytes)) name_octets id_octets payload_octets name_length id_length payload_length records m x)
 
 -- a reader that has just begun
-pub fresh_taken : (old : List ℕ → Type 0) (c : Context) (first : Bool) (xs : List ℕ) (phase : NestPhase) (bytes : List ℕ) (lo hi count : ℕ) → xs ≡ [] → first ≡ false → StepsAll old (CompletesBehind c phase) bytes lo hi count
+pub fresh_taken : (old : List ℕ → Type 0) (c : Context) (first : Bool) (xs : List ℕ) (phase : NestPhase) (bytes : List ℕ) (lo hi count : ℕ) → xs ≡ [] → first ≡ false → StepsAll old (CompletesAfter c phase) bytes lo hi count
     → StepsAll old (Completes c first xs phase) bytes lo hi count
 fresh_taken old c first xs phase bytes lo hi count e f h = rw (e, f) h
 

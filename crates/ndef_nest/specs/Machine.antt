@@ -1,4 +1,4 @@
--- What contracts and proofs say of the states of the machines. The definitions beside this folder
+-- Definitions for contracts and proofs about the states of the machines. The definitions beside this folder
 -- don't name them.
 pub mod BodyLaws
 pub mod Demands
@@ -16,5 +16,5 @@ pub mod RecordLaws
 pub mod RestLaws
 pub mod SpanLaws
 pub mod Spans
-pub mod Told
+pub mod StatedReasons
 pub mod TypedLaws

@@ -10,9 +10,9 @@ use ndef_lang::{Language, Leaf};
 use ndef_piece::{heads_are_of_pieces, whole_piece};
 use ndef_value::Profile;
 
-/// What follows the record at the front of the bytes, if it is clear at once that it may stand there: what is asked of
-/// it, whether the message ends there, and the bytes.
-fn behind_record(context: Context, first: bool, bytes: &[u8]) -> Option<(Demand, bool, &[u8])>
+/// Returns the state after the record at the front of the bytes, if it is clear at once that it may occur there: the
+/// demand, whether the message ends there, and the bytes.
+fn after_record(context: Context, first: bool, bytes: &[u8]) -> Option<(Demand, bool, &[u8])>
     ensures { IfSome result (λ r. (others : ℕ) → context.records ≡ suc others
         → Tail (Later context.profile context.table others) r.1 r.0 r.2.now
         → RecordsToCome context.profile context.table context.records first context.demand bytes.now) }
@@ -47,15 +47,15 @@ fn are_records(table: Table, records: u32, profile: Profile, bytes: &[u8]) -> bo
             demand,
             records: left,
         };
-        let Some((asked, last, behind)) = behind_record(context, first, rest) else {
+        let Some((asked, last, following)) = after_record(context, first, rest) else {
             return false;
         };
         if last {
-            return asked.is_met() && behind.is_empty();
+            return asked.is_met() && following.is_empty();
         }
         demand = asked;
         first = false;
-        rest = behind;
+        rest = following;
         left -= 1;
     }
     false

@@ -11,10 +11,10 @@ ghost use Rattle.ndef_format.specs.declared.kind.Kind.{Kind};
 ghost use Rattle.ndef_format.specs.Nested.{IsNest, IsVersion, table_of};
 ghost use Rattle.ndef_nest.specs.Machine.Demands.{suits, nested_spot};
 ghost use Rattle.ndef_nest.specs.Machine.Spans.{least_octets, most};
-ghost use Rattle.ndef_nest.specs.Machine.Phases.{Completes, CompletesBehind, CompletesHeaded, CompletesVersion, IsBetween, IsSoundBehind, Suits, is_sound, start_fits};
+ghost use Rattle.ndef_nest.specs.Machine.Phases.{Completes, CompletesAfter, CompletesHeaded, CompletesVersion, IsBetween, IsSoundAfter, Suits, is_sound, start_fits};
 ghost use Rattle.ndef_format.specs.NestedReasons.{MessageReason, NestReason};
-ghost use Rattle.ndef_nest.specs.Machine.Reached.{HasCome, HasComeBehind, IsHeaded, IsNew};
-ghost use Rattle.ndef_nest.specs.Machine.Told.{may_have, head_told};
+ghost use Rattle.ndef_nest.specs.Machine.Reached.{HasCome, HasComeAfter, IsHeaded, IsNew};
+ghost use Rattle.ndef_nest.specs.Machine.StatedReasons.{may_have, head_reason};
 ghost use Rattle.ndef_nest.specs.Machine.Fronts.{FrontAt};
 ghost use Rattle.ndef_nest.specs.Machine.FrontLaws.{front_at_prop};
 
@@ -24,11 +24,11 @@ use crate::demand::Demand;
 use crate::member::is_nested;
 use crate::phase::{NestPhase, headed, records_span};
 use crate::span::{OpenRecord, meets};
-use crate::whole::behind_head;
+use crate::whole::after_head;
 use ndef_lang::{Kind, Language};
 use ndef_piece::{
-    Bounds, Head, HeadReader, Step, conditions_are_exact, fields_are_told, heads_are_apart,
-    lengths_are_independent,
+    Bounds, Head, HeadReader, Step, conditions_are_exact, heads_are_unambiguous,
+    lengths_are_independent, next_fields_are_exact,
 };
 use ndef_value::{Profile, Reason, Tnf};
 
@@ -39,8 +39,8 @@ pub struct Nest {
     context: Context,
     reader: HeadReader,
     phase: NestPhase,
-    /// Why the octet taken last is refused, if it is.
-    told: Reason,
+    /// The reason why the octet taken last is refused, if it is.
+    reason: Reason,
     ghost suited: { suits context.table context.demand ≡ true },
     ghost going: { reader.answer ≡ steps.More },
     ghost spot: { reader.spot ≡ nested_spot context.profile reader.spot.first context.records },
@@ -48,7 +48,7 @@ pub struct Nest {
     ghost front: { FrontAt reader.spot reader.octets } by { front_at_prop reader.spot reader.octets },
 }
 
-/// After an octet in the place of the version octet.
+/// Returns the phase after an octet in the place of the version octet.
 fn after_version(byte: u8) -> (NestPhase, Reason)
     ensures future { (c : Context) (first : Bool) (xs r : List ℕ)
         → Completes c first xs result.0 r ↔ CompletesVersion c (byte ∷ r) }
@@ -72,9 +72,9 @@ fn may_have(bounds: &Bounds, length: u8) -> bool
     matches!(bounds.tnf, Tnf::WellKnown) && bounds.kind.0 <= length && length <= bounds.kind.1
 }
 
-/// Why an octet is refused with which a head continues, if it is.
-fn head_reason(demand: Demand, bounds: &Bounds) -> Reason
-    ensures { result ≡ head_told demand bounds.now }
+/// The reason why an octet is refused with which a head continues, if it is.
+fn reason_at_head(demand: Demand, bounds: &Bounds) -> Reason
+    ensures { result ≡ head_reason demand bounds.now }
 {
     match demand {
         Demand::OneUri if bounds.last && !may_have(bounds, 1) => Reason::UriMissing,
@@ -93,9 +93,9 @@ fn start_fits(context: &Context, lo: u64, hi: u64) -> bool
 }
 
 impl Nest {
-    ghost use Rattle.ndef_nest.specs.Machine.Nests.{come, future, nest_fits, nest_head_span, nest_span, nest_spot, nest_told, reached, reached_behind};
+    ghost use Rattle.ndef_nest.specs.Machine.Nests.{come, future, nest_fits, nest_head_span, nest_span, nest_spot, nest_reason, reached, reached_after};
 
-    /// Before the first octet of the payload; its message has at most `records` records, 1 to 65535.
+    /// Returns the state before the first octet of the payload; its message has at most `records` records, 1 to 65535.
     pub fn new(table: Table, records: u32, profile: Profile) -> Self
         requires some { 1 ≤ records }
         ensures future { Continues (IsNest table records profile) (future result) [] }
@@ -111,7 +111,7 @@ impl Nest {
             context,
             reader: HeadReader::new(context.spot(true)),
             phase: NestPhase::first(table),
-            told: Reason::DoesNotFit,
+            reason: Reason::DoesNotFit,
         }
     }
 
@@ -172,28 +172,28 @@ impl Nest {
         }
     }
 
-    /// After the whole head at the front of the bytes, and as much of its record as follows, if that is all of it or
-    /// its type, where it is clear at once that they stand there and some `lo` to `hi` octets continue them: what is
-    /// known then, where the next octet stands, and the number of octets taken.
-    fn behind_whole(&self, bytes: &[u8], lo: u64, hi: u64) -> Option<(Context, NestPhase, usize)>
+    /// Returns the state after the whole head at the front of the bytes, and as much of its record as follows, if that
+    /// is all of it or its type, and it is clear at once that they may occur there, continued by `lo` to `hi` octets:
+    /// the context, the position of the next octet, and the number of octets taken.
+    fn after_whole(&self, bytes: &[u8], lo: u64, hi: u64) -> Option<(Context, NestPhase, usize)>
         requires enough { length bytes.now ≤ lo }
         requires ordered { lo ≤ hi }
         requires small { hi < 2 ^ 32 }
         ensures some { IfSome result (λ r. 0 < r.2) }
         ensures most { IfSome result (λ r. r.2 ≤ length bytes.now) }
         ensures suited { IfSome result (λ r. Suits r.0) }
-        ensures sound { IfSome result (λ r. IsSoundBehind r.0 r.1) }
+        ensures sound { IfSome result (λ r. IsSoundAfter r.0 r.1) }
         ensures steps { IfSome result (λ r.
-            StepsAll (future self.now) (CompletesBehind r.0 r.1) (take r.2 bytes.now) lo hi r.2) }
+            StepsAll (future self.now) (CompletesAfter r.0 r.1) (take r.2 bytes.now) lo hi r.2) }
         ensures reached { IfSome result (λ r.
-            ReachesEach (reached self.now) (reached_behind r.0 r.1) (take r.2 bytes.now)) }
+            ReachesEach (reached self.now) (reached_after r.0 r.1) (take r.2 bytes.now)) }
     {
         // For the proof alone.
-        heads_are_apart();
+        heads_are_unambiguous();
         let (head, count) = self.whole_head(bytes)?;
         let context = self.context.fewer();
         let before = count as u64;
-        let (demand, phase, more) = behind_head(
+        let (demand, phase, more) = after_head(
             &context,
             &head,
             &bytes[count..],
@@ -220,23 +220,23 @@ impl Nest {
         ensures reason { result.1 < result.0 → (kind : Kind) (records : ℕ) (profile : Profile)
             → TellsWhyAt (reached self.old kind records profile)
             (NestReason (table_of kind) records profile)
-            (take result.0 bytes.now) result.1 (nest_told self.new) }
+            (take result.0 bytes.now) result.1 (nest_reason self.new) }
     {
         if let NestPhase::Body(body) = self.phase {
             if body.id == 0 {
                 // For the proof alone.
-                fields_are_told();
+                next_fields_are_exact();
                 let most = bytes.len().min(body.payload as usize);
-                let (phase, told, count) = body.step_all(&self.context, &bytes[..most]);
+                let (phase, reason, count) = body.step_all(&self.context, &bytes[..most]);
                 self.phase = phase;
-                self.told = told;
+                self.reason = reason;
                 return (most, count);
             }
             let few = bytes.len().min(body.id as usize);
             self.phase = body.pass_id(&self.context, &bytes[..few]);
             return (few, few);
         }
-        if let Some((context, phase, count)) = self.behind_whole(bytes, lo, hi) {
+        if let Some((context, phase, count)) = self.after_whole(bytes, lo, hi) {
             self.context = context;
             self.reader = HeadReader::new(context.spot(false));
             self.phase = phase;
@@ -259,20 +259,20 @@ impl Nest {
             × (self.new.context.profile ≡ self.old.context.profile) }
         ensures reason { (records : ℕ) → TellsWhy (come self.old records) (future self.old)
             (MessageReason self.old.context.table records self.old.context.profile)
-            byte (nest_told self.new) }
+            byte (nest_reason self.new) }
         ensures head { IfSome result (λ b. self.new.phase ≡ NestPhase.Head) }
         ensures bounds { IfSome result (λ b. AreBounds self.new.reader.spot self.new.reader.octets b) }
     {
         // For the proof alone.
         lengths_are_independent();
-        heads_are_apart();
-        fields_are_told();
+        heads_are_unambiguous();
+        next_fields_are_exact();
         conditions_are_exact();
         match self.reader.step(byte) {
             Step::More => {
                 let bounds = self.reader.bounds();
                 if let Some(bounds) = bounds {
-                    self.told = head_reason(self.context.demand, &bounds);
+                    self.reason = reason_at_head(self.context.demand, &bounds);
                 }
                 bounds
             }
@@ -282,13 +282,13 @@ impl Nest {
                 let (demand, phase) = headed(&self.context, &head);
                 self.context.demand = demand;
                 self.phase = phase;
-                self.told = Reason::DoesNotFit;
+                self.reason = Reason::DoesNotFit;
                 None
             }
             Step::Refused(reason) => {
                 self.reader = HeadReader::new(self.context.spot(false));
                 self.phase = NestPhase::Refused;
-                self.told = reason;
+                self.reason = reason;
                 None
             }
         }
@@ -300,17 +300,17 @@ impl Nest {
         ensures reached { ReachesEach (reached self.old) (reached self.new) (byte ∷ []) }
         ensures reason { (kind : Kind) (records : ℕ) (profile : Profile)
             → TellsWhy (reached self.old kind records profile) (future self.old)
-            (NestReason (table_of kind) records profile) byte (nest_told self.new) }
+            (NestReason (table_of kind) records profile) byte (nest_reason self.new) }
         ensures head { IfSome result (λ b. self.new.phase ≡ NestPhase.Head) }
         ensures bounds { IfSome result (λ b. AreBounds self.new.reader.spot self.new.reader.octets b) }
     {
         // For the proof alone.
-        fields_are_told();
+        next_fields_are_exact();
         match self.phase {
             NestPhase::Version => {
-                let (phase, told) = after_version(byte);
+                let (phase, reason) = after_version(byte);
                 self.phase = phase;
-                self.told = told;
+                self.reason = reason;
                 None
             }
             NestPhase::Start => {
@@ -320,21 +320,21 @@ impl Nest {
             }
             NestPhase::Head => self.at_head(byte),
             NestPhase::Name(name) => {
-                self.told = name.reason(self.context.demand, byte);
+                self.reason = name.reason(self.context.demand, byte);
                 let (demand, phase) = name.step(&self.context, byte);
                 self.context.demand = demand;
                 self.phase = phase;
                 None
             }
             NestPhase::Body(body) => {
-                let (phase, told) = body.step(&self.context, byte);
+                let (phase, reason) = body.step(&self.context, byte);
                 self.phase = phase;
-                self.told = told;
+                self.reason = reason;
                 None
             }
             NestPhase::Ended | NestPhase::Refused => {
                 self.phase = NestPhase::Refused;
-                self.told = Reason::DoesNotFit;
+                self.reason = Reason::DoesNotFit;
                 None
             }
         }
@@ -342,7 +342,7 @@ impl Nest {
 }
 
 impl Language for Nest {
-    ghost use Rattle.ndef_nest.specs.Machine.Nests.{future, nest_fits, nest_told, reached};
+    ghost use Rattle.ndef_nest.specs.Machine.Nests.{future, nest_fits, nest_reason, reached};
     ghost use Rattle.ndef_nest.specs.Machine.SpanLaws.{nest_fits_exactly};
     ghost use Rattle.ndef_nest.specs.Machine.OctetLaws.{nest_completes_octets, nest_octets};
 
@@ -356,7 +356,7 @@ impl Language for Nest {
 
     ghost fitting = { nest_fits };
 
-    ghost reason_of_last = { nest_told };
+    ghost reason_of_last = { nest_reason };
 
     #[inline(always)]
     fn has(kind: Kind, records: u32, profile: Profile, payload: &[u8]) -> bool {
@@ -395,7 +395,7 @@ impl Language for Nest {
     }
 
     fn reason(&self) -> Reason {
-        self.told
+        self.reason
     }
 
     ghost exact = { nest_fits_exactly };

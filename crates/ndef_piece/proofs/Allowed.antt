@@ -1,10 +1,10 @@
--- No condition holds of any octet of a head that may stand.
+-- No condition holds of any octet of a head that may occur.
 use Rattle.std.proofs.Common.{◌≡◌, ℕ, ◌<◌, ◌≤◌, Bool, true, false, refl, sym, ◌∙◌, ap, arith, List, [], ◌∷◌, ◌++◌, length, Some, None, append_assoc, length-append}
 use Rattle.std.specs.Prelude.{is_some, nat_lt, unwrap_or}
 use Rattle.std.proofs.lemmas.Bool.{lt-ltb, le-ltb, eqb-true}
 use Rattle.ndef_format.specs.Records.{HeadFields, octets, payload_length_octets}
 use Rattle.ndef_format.specs.declared.spot.Spot.{Spot}
-use Rattle.ndef_format.specs.Positions.{MayStand, CanBeSpelled}
+use Rattle.ndef_format.specs.Positions.{MayOccur, CanBeSpelled}
 use Rattle.ndef_piece.specs.Heads.{IsViableHead}
 use Rattle.ndef_format.specs.HeadReasons.{width, least_from, reason_for}
 use Rattle.ndef_piece.proofs.Refusals.{header_fits, type_length_fits, not_zero}
@@ -40,7 +40,7 @@ pub past_length : (h : HeadFields) → CanBeSpelled h → nat_lt (length (length
 past_length h l = rw (width_of h l.tnf) (le-ltb _ _ (let e = (length_octets h.short h.payload_length l.form).0 in omega (arith, e)))
 
 -- no condition holds of an octet of PAYLOAD_LENGTH
-length_fits : (spot : Spot) (h : HeadFields) (ls m : List ℕ) (b : ℕ) → MayStand spot h → length_part h ≡ ls ++ b ∷ m
+length_fits : (spot : Spot) (h : HeadFields) (ls m : List ℕ) (b : ℕ) → MayOccur spot h → length_part h ≡ ls ++ b ∷ m
     → reason_for spot (header h ∷ h.kind_length ∷ ls) b ≡ None
 length_fits spot h ls m b s e =
     let f = in_length h ls m b s.spelled e in
@@ -52,7 +52,7 @@ length_fits spot h ls m b s e =
     (skip _ _ _ (le-ltb _ _ small) refl))
 
 -- no condition holds of ID_LENGTH
-id_fits : (spot : Spot) (h : HeadFields) (b : ℕ) → MayStand spot h → h.id_length ≡ Some b
+id_fits : (spot : Spot) (h : HeadFields) (b : ℕ) → MayOccur spot h → h.id_length ≡ Some b
     → reason_for spot (header h ∷ h.kind_length ∷ length_part h) b ≡ None
 id_fits spot h b s e =
     let f = past_length h s.spelled in
@@ -61,7 +61,7 @@ id_fits spot h b s e =
     refl)
 
 -- an octet of a head that may stand meets no condition
-pub allowed : (spot : Spot) (h : HeadFields) (xs rest : List ℕ) (b : ℕ) → MayStand spot h → octets h ≡ xs ++ b ∷ rest → reason_for spot xs b ≡ None
+pub allowed : (spot : Spot) (h : HeadFields) (xs rest : List ℕ) (b : ℕ) → MayOccur spot h → octets h ≡ xs ++ b ∷ rest → reason_for spot xs b ≡ None
 allowed spot h xs rest b s e =
     elim (stage h xs rest b e) [
       | at_header x y ↦ rw (x, ← y) (header_fits spot h (is_some h.id_length) (header h) s (header_parts h s.spelled.tnf) (λ i. ap is_some (s.inside i).1))

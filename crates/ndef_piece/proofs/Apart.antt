@@ -9,7 +9,7 @@ use Rattle.ndef_format.specs.declared.spot.Spot.{Spot}
 use Rattle.ndef_piece.specs.declared.head_reader.Step.TheVariants as steps
 use Rattle.ndef_format.specs.HeadReasons.{is_set, tnf_number}
 use Rattle.ndef_piece.specs.Header.{size}
-use Rattle.ndef_piece.specs.Heads.{head, HeadsAreApart, HeadersTell, BeginsHead, IsWholeHead, IsViableHead}
+use Rattle.ndef_piece.specs.Heads.{head, HeadsAreUnambiguous, HeadersTell, BeginsHead, IsWholeHead, IsViableHead}
 use Rattle.ndef_format.specs.Positions.{CanBeSpelled, IsOpen}
 use Rattle.ndef_piece.specs.Machine.Reading.{OneAnswer}
 use Rattle.ndef_value.specs.ListLaws.{cut_alike}
@@ -61,8 +61,8 @@ same_parts : (a a' b b' c c' d d' : Bool) (t t' k k' n n' : ℕ) (i i' : Option 
     → make a b c d t k n i ≡ make a' b' c' d' t' k' n' i'
 same_parts a a' b b' c c' d d' t t' k k' n n' i i' e1 e2 e3 e4 e5 e6 e7 e8 = rw (e1, e2, e3, e4, e5, e6, e7, e8) refl
 
-pub heads_are_apart : HeadsAreApart
-heads_are_apart f g x y a b e =
+pub heads_are_unambiguous : HeadsAreUnambiguous
+heads_are_unambiguous f g x y a b e =
     let w = cut_alike (octets f) (octets g) x y (same_size f g a b x y e) e in
     let h = same_head f g a b w.0 in
     let o = w.0 in
@@ -76,7 +76,7 @@ heads_are_apart f g x y a b e =
 -- only one head begins with a whole one
 pub only_head : (spot : Spot) (xs : List ℕ) (h : Head) (w : IsWholeHead spot xs h) (f : HeadFields) (b : BeginsHead spot xs f) → (f ≡ w.fields) × ([] ≡ b.rest)
 only_head spot xs h w f b =
-    heads_are_apart f w.fields [] b.rest b.stands.spelled w.stands.spelled (append-nil (octets f) ∙ b.spelled ∙ ap (λ x. x ++ b.rest) (sym w.spelled))
+    heads_are_unambiguous f w.fields [] b.rest b.stands.spelled w.stands.spelled (append-nil (octets f) ∙ b.spelled ∙ ap (λ x. x ++ b.rest) (sym w.spelled))
 
 -- no head lies in an open front
 pub open_not_past : (at : Spot) (xs : List ℕ) (o : IsOpen at xs) (g : HeadFields) (m : List ℕ) → CanBeSpelled g → xs ≡ octets g ++ m → ⊥

@@ -8,7 +8,7 @@ use Rattle.ndef_format.specs.Records.{HeadFields, octets, header_octet, HasShape
 use Rattle.ndef_piece.specs.declared.head.Head.{Head}
 use Rattle.ndef_format.specs.declared.spot.Spot.{Spot}
 use Rattle.ndef_piece.specs.declared.bounds.Bounds.{Bounds}
-use Rattle.ndef_format.specs.Positions.{CanBeSpelled, MayStand, IsOpen}
+use Rattle.ndef_format.specs.Positions.{CanBeSpelled, MayOccur, IsOpen}
 use Rattle.ndef_piece.specs.Heads.{head, BeginsHead}
 use Rattle.ndef_format.specs.HeadReasons.{tnf_number, least_from}
 use Rattle.ndef_piece.specs.Header.{size}
@@ -106,8 +106,8 @@ record IsPayload (spot : Spot) (h : HeadFields) (ls : List ℕ) (n : ℕ) : Type
   empty : h.tnf ≡ 0 → n ≡ 0
 
 -- it may stand too, and its octets begin alike
-other_head : (spot : Spot) (h : HeadFields) (ls m : List ℕ) (k i n : ℕ) → MayStand spot h → length_part h ≡ ls ++ m → IsIn k (kind_range h.tnf []) → IsIn i (id_range h.tnf (is_some h.id_length))
-    → IsPayload spot h ls n → MayStand spot (other h k i n) × (unwrap_or (other_id h.id_length i) 0 ≡ i) × ((rest : List ℕ) × (length_part (other h k i n) ≡ ls ++ rest))
+other_head : (spot : Spot) (h : HeadFields) (ls m : List ℕ) (k i n : ℕ) → MayOccur spot h → length_part h ≡ ls ++ m → IsIn k (kind_range h.tnf []) → IsIn i (id_range h.tnf (is_some h.id_length))
+    → IsPayload spot h ls n → MayOccur spot (other h k i n) × (unwrap_or (other_id h.id_length i) 0 ≡ i) × ((rest : List ℕ) × (length_part (other h k i n) ≡ ls ++ rest))
 other_head spot h ls m k i n s e kr ir p =
     let l = length_octets h.short h.payload_length s.spelled.form in
     let small : length ls ≤ octet_count h.short = omega (arith, ap length e, length-append ls m, l.0) in
@@ -134,7 +134,7 @@ same_octet : (h : HeadFields) (k i n : ℕ) → header (other h k i n) ≡ heade
 same_octet h k i n = ap (λ b. header_octet h.first h.last h.chunked h.short b h.tnf) (other_some h.id_length i)
 
 -- a number in the range of payload lengths is one
-from_range : (spot : Spot) (h : HeadFields) (ls m : List ℕ) (n : ℕ) → MayStand spot h → length_part h ≡ ls ++ m
+from_range : (spot : Spot) (h : HeadFields) (ls m : List ℕ) (n : ℕ) → MayOccur spot h → length_part h ≡ ls ++ m
     → ((least_from (octet_count h.short) ls ≤ h.payload_length) × (h.payload_length ≤ greatest_from (octet_count h.short) ls))
     → IsIn n (cond (h.tnf == 0) (0, 0) (least_from (octet_count h.short) ls, min (greatest_from (octet_count h.short) ls) spot.room)) → IsPayload spot h ls n
 from_range spot h ls m n s e w r =
@@ -171,11 +171,11 @@ begun_range spot h g k ls t n b =
     in_range spot h g ls w.0 t eh b.stands.spelled w.1
 
 -- an empty record has no payload
-empty_length : (spot : Spot) (h g : HeadFields) → h.tnf < 8 → h.tnf ≡ 0 → header g ≡ header h → MayStand spot g → g.payload_length ≡ 0
+empty_length : (spot : Spot) (h g : HeadFields) → h.tnf < 8 → h.tnf ≡ 0 → header g ≡ header h → MayOccur spot g → g.payload_length ≡ 0
 empty_length spot h g t z e s = (empty_lengths g.tnf _ _ _ s.shape ((alike g h s.spelled.tnf t e).tnf ∙ z)).1
 
 -- so it lies in the range
-to_range : (spot : Spot) (h g : HeadFields) (ls : List ℕ) → h.tnf < 8 → header g ≡ header h → MayStand spot g
+to_range : (spot : Spot) (h g : HeadFields) (ls : List ℕ) → h.tnf < 8 → header g ≡ header h → MayOccur spot g
     → ((least_from (octet_count h.short) ls ≤ g.payload_length) × (g.payload_length ≤ greatest_from (octet_count h.short) ls))
     → IsIn g.payload_length (cond (h.tnf == 0) (0, 0) (least_from (octet_count h.short) ls, min (greatest_from (octet_count h.short) ls) spot.room))
 to_range spot h g ls t e s w =
@@ -215,7 +215,7 @@ sound spot h f xs t b kind payload =
 -- ---- after the header octet
 
 -- the bounds there
-kind_bounds : (spot : Spot) (h : HeadFields) → MayStand spot h → AreBounds spot (header h ∷ []) (bounds_of spot (header h) [])
+kind_bounds : (spot : Spot) (h : HeadFields) → MayOccur spot h → AreBounds spot (header h ∷ []) (bounds_of spot (header h) [])
 kind_bounds spot h s =
     let t = s.spelled.tnf in
     let p = header_parts h t in
@@ -240,7 +240,7 @@ kind_bounds spot h s =
 -- ---- after TYPE_LENGTH and the octets ls of PAYLOAD_LENGTH
 
 -- the bounds there
-length_bounds : (spot : Spot) (h : HeadFields) (ls m : List ℕ) → MayStand spot h → length_part h ≡ ls ++ m
+length_bounds : (spot : Spot) (h : HeadFields) (ls m : List ℕ) → MayOccur spot h → length_part h ≡ ls ++ m
     → AreBounds spot (header h ∷ h.kind_length ∷ ls) (bounds_of spot (header h) (h.kind_length ∷ ls))
 length_bounds spot h ls m s e =
     let t = s.spelled.tnf in

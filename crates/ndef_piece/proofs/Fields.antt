@@ -1,4 +1,4 @@
--- The octets so far stand at one field.
+-- The octets so far are at one field.
 use Rattle.std.proofs.Common.{◌≡◌, ℕ, ◌+◌, Bool, true, List, [], ◌∷◌, ◌++◌, length, length-append, refl, sym, ◌∙◌, ap, arith, append_assoc, append-nil}
 use Rattle.std.specs.Prelude.{unwrap_or}
 use Rattle.std.specs.List.{AllByRecursion}
@@ -10,7 +10,7 @@ use Rattle.ndef_format.specs.Messages.{SpellsPieces, all_pieces, EndsOnce}
 use Rattle.ndef_format.specs.declared.spot.Spot.{Spot}
 use Rattle.ndef_format.specs.Positions.{CanBeSpelled, IsOpen, Field, InHead, InType, InId, InPayload, AtEnd, octets_so_far, IsProper, EndsAt, NoneLast}
 use Rattle.ndef_piece.specs.Field.{OneField}
-use Rattle.ndef_piece.proofs.Apart.{heads_are_apart}
+use Rattle.ndef_piece.proofs.Apart.{heads_are_unambiguous}
 use Rattle.ndef_piece.proofs.PieceHeads.{id_length}
 
 -- ---- pieces
@@ -27,7 +27,7 @@ same_piece : (p q : Piece) (s t : Bool) (x y a b : List ℕ) → SpellsPiece p s
 same_piece p q s t x y a b h k e =
     let f : octets (fields p s) ++ (body p ++ a) ≡ octets (fields q t) ++ (body q ++ b) =
     sym (append_assoc (octets (fields p s)) (body p) a) ∙ ap (λ z. z ++ a) (sym h.spelled) ∙ e ∙ ap (λ z. z ++ b) k.spelled ∙ append_assoc (octets (fields q t)) (body q) b in
-    let w = heads_are_apart (fields p s) (fields q t) (body p ++ a) (body q ++ b) (piece_head p s x h) (piece_head q t y k) f in
+    let w = heads_are_unambiguous (fields p s) (fields q t) (body p ++ a) (body q ++ b) (piece_head p s x h) (piece_head q t y k) f in
     same_body p q s a b (w.0 ∙ ap (fields q) (sym (ap (λ z. z.short) w.0))) w.1
 
 -- ---- fields
@@ -46,7 +46,7 @@ not_in_head : (spot : Spot) (xs rest : List ℕ) (f : HeadFields) → IsOpen spo
 not_in_head spot xs rest f o s e =
     let more = o.next ∷ o.rest in
     let g : octets o.fields ++ [] ≡ octets f ++ (rest ++ more) = append-nil (octets o.fields) ∙ o.spelled ∙ ap (λ z. z ++ more) e ∙ append_assoc (octets f) rest more in
-    let w = heads_are_apart o.fields f [] (rest ++ more) o.stands.spelled s g in
+    let w = heads_are_unambiguous o.fields f [] (rest ++ more) o.stands.spelled s g in
     omega (arith, ap length w.1, length-append rest more)
 
 -- the octets of a field don't go past a piece
@@ -56,15 +56,15 @@ no_overrun spot (InHead xs) p short bytes rest at s e =
     (e ∙ ap (λ z. z ++ rest) s.spelled ∙ append_assoc (octets (fields p short)) (body p) rest)
 no_overrun spot (InType f n) p short bytes rest at s e =
     let g : octets f ++ n ≡ octets (fields p short) ++ (body p ++ rest) = e ∙ ap (λ z. z ++ rest) s.spelled ∙ append_assoc (octets (fields p short)) (body p) rest in
-    let w = heads_are_apart f (fields p short) n (body p ++ rest) at.0.stands.spelled (piece_head p short bytes s) g in
+    let w = heads_are_unambiguous f (fields p short) n (body p ++ rest) at.0.stands.spelled (piece_head p short bytes s) g in
     omega (arith, at.1, ap kinds_of w.0, ap length w.1, length-append (body p) rest, body_length p)
 no_overrun spot (InId f n i) p short bytes rest at s e =
     let g : octets f ++ (n ++ i) ≡ octets (fields p short) ++ (body p ++ rest) = e ∙ ap (λ z. z ++ rest) s.spelled ∙ append_assoc (octets (fields p short)) (body p) rest in
-    let w = heads_are_apart f (fields p short) (n ++ i) (body p ++ rest) at.0.stands.spelled (piece_head p short bytes s) g in
+    let w = heads_are_unambiguous f (fields p short) (n ++ i) (body p ++ rest) at.0.stands.spelled (piece_head p short bytes s) g in
     omega (arith, at.1, at.2, ap kinds_of w.0, ap ids_of w.0, id_length p.id, ap length w.1, length-append n i, length-append (body p) rest, body_length p)
 no_overrun spot (InPayload f n i c) p short bytes rest at s e =
     let g : octets f ++ (n ++ (i ++ c)) ≡ octets (fields p short) ++ (body p ++ rest) = e ∙ ap (λ z. z ++ rest) s.spelled ∙ append_assoc (octets (fields p short)) (body p) rest in
-    let w = heads_are_apart f (fields p short) (n ++ (i ++ c)) (body p ++ rest) at.0.stands.spelled (piece_head p short bytes s) g in
+    let w = heads_are_unambiguous f (fields p short) (n ++ (i ++ c)) (body p ++ rest) at.0.stands.spelled (piece_head p short bytes s) g in
     omega (arith, at.1, at.2, at.3, ap kinds_of w.0, ap ids_of w.0, ap payloads_of w.0, id_length p.id, ap length w.1, length-append n (i ++ c), length-append i c, length-append (body p) rest, body_length p)
 no_overrun spot AtEnd p short bytes rest at s e =
     let g : [] ≡ octets (fields p short) ++ (body p ++ rest) = e ∙ ap (λ z. z ++ rest) s.spelled ∙ append_assoc (octets (fields p short)) (body p) rest in
@@ -95,34 +95,34 @@ module _ (ps : List Piece) (spot other : Spot) where
   same_field (InId f n i) (InHead ys) h k at to e = absurd (not_in_head other ys (n ++ i) f to at.0.stands.spelled (sym e))
   same_field (InPayload f n i c) (InHead ys) h k at to e = absurd (not_in_head other ys (n ++ (i ++ c)) f to at.0.stands.spelled (sym e))
   same_field (InType f n) (InType g m) h k at to e =
-      let w = heads_are_apart f g n m at.0.stands.spelled to.0.stands.spelled e in
+      let w = heads_are_unambiguous f g n m at.0.stands.spelled to.0.stands.spelled e in
       (λ z. InType (w.0 z) (w.1 z))
   same_field (InType f n) (InId g m j) h k at to e =
-      let w = heads_are_apart f g n (m ++ j) at.0.stands.spelled to.0.stands.spelled e in
+      let w = heads_are_unambiguous f g n (m ++ j) at.0.stands.spelled to.0.stands.spelled e in
       absurd (omega (arith, at.1, to.1, ap kinds_of w.0, ap length w.1, length-append m j))
   same_field (InType f n) (InPayload g m j d) h k at to e =
-      let w = heads_are_apart f g n (m ++ (j ++ d)) at.0.stands.spelled to.0.stands.spelled e in
+      let w = heads_are_unambiguous f g n (m ++ (j ++ d)) at.0.stands.spelled to.0.stands.spelled e in
       absurd (omega (arith, at.1, to.1, ap kinds_of w.0, ap length w.1, length-append m (j ++ d)))
   same_field (InId f n i) (InType g m) h k at to e =
-      let w = heads_are_apart f g (n ++ i) m at.0.stands.spelled to.0.stands.spelled e in
+      let w = heads_are_unambiguous f g (n ++ i) m at.0.stands.spelled to.0.stands.spelled e in
       absurd (omega (arith, at.1, to.1, ap kinds_of w.0, ap length w.1, length-append n i))
   same_field (InPayload f n i c) (InType g m) h k at to e =
-      let w = heads_are_apart f g (n ++ (i ++ c)) m at.0.stands.spelled to.0.stands.spelled e in
+      let w = heads_are_unambiguous f g (n ++ (i ++ c)) m at.0.stands.spelled to.0.stands.spelled e in
       absurd (omega (arith, at.1, to.1, ap kinds_of w.0, ap length w.1, length-append n (i ++ c)))
   same_field (InId f n i) (InId g m j) h k at to e =
-      let w = heads_are_apart f g (n ++ i) (m ++ j) at.0.stands.spelled to.0.stands.spelled e in
+      let w = heads_are_unambiguous f g (n ++ i) (m ++ j) at.0.stands.spelled to.0.stands.spelled e in
       let u = cut_alike n m i j (at.1 ∙ ap kinds_of w.0 ∙ sym to.1) w.1 in
       (λ z. InId (w.0 z) (u.0 z) (u.1 z))
   same_field (InId f n i) (InPayload g m j d) h k at to e =
-      let w = heads_are_apart f g (n ++ i) (m ++ (j ++ d)) at.0.stands.spelled to.0.stands.spelled e in
+      let w = heads_are_unambiguous f g (n ++ i) (m ++ (j ++ d)) at.0.stands.spelled to.0.stands.spelled e in
       let u = cut_alike n m i (j ++ d) (at.1 ∙ ap kinds_of w.0 ∙ sym to.1) w.1 in
       absurd (omega (arith, at.2, to.2, ap ids_of w.0, ap length u.1, length-append j d))
   same_field (InPayload f n i c) (InId g m j) h k at to e =
-      let w = heads_are_apart f g (n ++ (i ++ c)) (m ++ j) at.0.stands.spelled to.0.stands.spelled e in
+      let w = heads_are_unambiguous f g (n ++ (i ++ c)) (m ++ j) at.0.stands.spelled to.0.stands.spelled e in
       let u = cut_alike n m (i ++ c) j (at.1 ∙ ap kinds_of w.0 ∙ sym to.1) w.1 in
       absurd (omega (arith, at.2, to.2, ap ids_of w.0, ap length u.1, length-append i c))
   same_field (InPayload f n i c) (InPayload g m j d) h k at to e =
-      let w = heads_are_apart f g (n ++ (i ++ c)) (m ++ (j ++ d)) at.0.stands.spelled to.0.stands.spelled e in
+      let w = heads_are_unambiguous f g (n ++ (i ++ c)) (m ++ (j ++ d)) at.0.stands.spelled to.0.stands.spelled e in
       let u = cut_alike n m (i ++ c) (j ++ d) (at.1 ∙ ap kinds_of w.0 ∙ sym to.1) w.1 in
       let v = cut_alike i j c d (at.2 ∙ ap ids_of w.0 ∙ sym to.2) u.1 in
       (λ z. InPayload (w.0 z) (u.0 z) (v.0 z) (v.1 z))

@@ -1,10 +1,10 @@
--- Which piece may come next in a message within the limits.
+-- The pieces that may come next in a message within the limits.
 use Rattle.std.proofs.Common.{◌≡◌, ℕ, ◌-◌, ◌^◌, ◌<◌, ◌≤◌, Bool, true, false, refl, sym, ◌∙◌, subst, arith, List, [], ◌∷◌, ◌++◌, length, append_assoc}
 use Rattle.std.proofs.lemmas.List.{append-nil}
 use Rattle.ndef_format.specs.Records.{Piece}
 use Rattle.ndef_format.specs.Messages.{Item}
 use Rattle.ndef_format.specs.Limits.{LimitValues, AreInRange}
-use Rattle.ndef_format.specs.Positions.{Stands}
+use Rattle.ndef_format.specs.Positions.{IsConsistentAt}
 use Rattle.ndef_piece.specs.Walk.{Before, start, spot, ending_record, after, Walk, Walked, standing}
 use Rattle.ndef_piece.specs.Fronts.{AreMessage, BeginMessage, FrontsHaveSpots}
 use Rattle.ndef_piece.proofs.Walks.{walks_are_messages, walks_are_cut}
@@ -55,8 +55,8 @@ whole limits ps done d r w = (
 
 -- the piece that may come next stands where the walk leads
 next : (limits : LimitValues) (ps : List Piece) (done : List Item) (d : Before) (p : Piece) → AreInRange limits → d.room < 2 ^ 32 → Walked limits (start limits) ps done d
-    → (BeginMessage limits (ps ++ p ∷ []) → (d.over ≡ false) × Stands (spot limits.profile d) p)
-    × ((d.over ≡ false) × Stands (spot limits.profile d) p → BeginMessage limits (ps ++ p ∷ []))
+    → (BeginMessage limits (ps ++ p ∷ []) → (d.over ≡ false) × IsConsistentAt (spot limits.profile d) p)
+    × ((d.over ≡ false) × IsConsistentAt (spot limits.profile d) p → BeginMessage limits (ps ++ p ∷ []))
 next limits ps done d p r small w = (
   (λ m.
       let v = message_walks limits ((ps ++ p ∷ []) ++ m.0) r m.1 in
@@ -87,7 +87,7 @@ fronts_have_spots limits ps r m =
       whole = whole limits ps t.0 d r t.4;
       next = λ p.
           (let n = next limits ps t.0 d p r (omega (arith, room, most)) t.4 in (
-            (λ b. let s = n.0 b in (s.0, subst (λ x. Stands x p) k.spot_is s.1)),
-            (λ s. n.1 (s.0, subst (λ x. Stands x p) (sym k.spot_is) s.1)),
+            (λ b. let s = n.0 b in (s.0, subst (λ x. IsConsistentAt x p) k.spot_is s.1)),
+            (λ s. n.1 (s.0, subst (λ x. IsConsistentAt x p) (sym k.spot_is) s.1)),
           ));
     }

@@ -5,11 +5,11 @@ use Rattle.std.specs.Option.{option_map}
 use Rattle.ndef_format.specs.Records.{Piece, IsPiece, IsLater, IsRead, FitsForm, HeadFields, fields, octets, body, HasShape, tnf_of, AreOctets}
 use Rattle.ndef_format.specs.declared.spot.Spot.{Spot}
 use Rattle.ndef_piece.specs.Heads.{head}
-use Rattle.ndef_format.specs.Positions.{MayStand, CanBeSpelled, IsOpen, Stands}
+use Rattle.ndef_format.specs.Positions.{MayOccur, CanBeSpelled, IsOpen, IsConsistentAt}
 use Rattle.ndef_piece.specs.Pieces.{HeadsOfPieces, PiecesOfHeads, HeadsOfBytes, LengthsOfPieces}
 use Rattle.ndef_piece.specs.HeaderLaws.{octets_size, header}
 use Rattle.ndef_value.specs.ListLaws.{split_append}
-use Rattle.ndef_piece.proofs.Apart.{heads_are_apart}
+use Rattle.ndef_piece.proofs.Apart.{heads_are_unambiguous}
 use Rattle.ndef_value.specs.TnfLaws.{read_by_all}
 use Rattle.ndef_piece.specs.Header.{size}
 use Rattle.std.proofs.lemmas.List.{append-nil, length-replicate, nil_from_length}
@@ -29,12 +29,12 @@ later_shape : (p : Piece) → IsLater p → HasShape (tnf_of p.tnf) (length p.ki
 later_shape p l = rw (l.tnf, l.kind) refl
 
 -- a piece that may stand has the shape of its head
-piece_shape : (spot : Spot) (p : Piece) (inside : Bool) → spot.inside ≡ inside → Stands spot p → HasShape (tnf_of p.tnf) (length p.kind) (unwrap_or (option_map length p.id) 0) (length p.payload)
+piece_shape : (spot : Spot) (p : Piece) (inside : Bool) → spot.inside ≡ inside → IsConsistentAt spot p → HasShape (tnf_of p.tnf) (length p.kind) (unwrap_or (option_map length p.id) 0) (length p.payload)
 piece_shape spot p false e s = rw (id_length p.id) (s.initial e).1
 piece_shape spot p true e s = later_shape p (s.later e)
 
 -- and a type name format that is read
-piece_read : (spot : Spot) (p : Piece) (inside : Bool) → spot.inside ≡ inside → Stands spot p → IsRead spot.profile p.tnf
+piece_read : (spot : Spot) (p : Piece) (inside : Bool) → spot.inside ≡ inside → IsConsistentAt spot p → IsRead spot.profile p.tnf
 piece_read spot p false e s = (s.initial e).0.read
 piece_read spot p true e s = read_by_all spot.profile p.tnf (let t = (s.later e).tnf in omega (arith, t))
 
@@ -71,7 +71,7 @@ heads_of_pieces spot p short fits form = (
 pub pieces_of_heads : PiecesOfHeads
 pieces_of_heads spot h p fits e m =
     let form : FitsForm h.short (length p.payload) = subst (λ n. FitsForm h.short n) (sym (ap (λ x. x.payload_length) e)) m.spelled.form in (
-      (heads_of_pieces spot p h.short fits form).1 (subst (MayStand spot) (sym e) m),
+      (heads_of_pieces spot p h.short fits form).1 (subst (MayOccur spot) (sym e) m),
       record { piece = fits; form = form; spelled = ap (λ x. octets x ++ body p) (sym e) },
     )
 
@@ -87,19 +87,19 @@ past_open spot g (x ∷ xs) m b o l e =
 pub heads_of_bytes : HeadsOfBytes
 heads_of_bytes spot p short bytes xs rest b spelled stands o e =
     let g = fields p short in
-    let m : MayStand spot g = (heads_of_pieces spot p short spelled.piece spelled.form).0 stands in
+    let m : MayOccur spot g = (heads_of_pieces spot p short spelled.piece spelled.form).0 stands in
     let whole : octets g ++ body p ≡ (xs ++ b ∷ []) ++ rest = sym spelled.spelled ∙ e in
     elim (split_append (octets g) (body p) (xs ++ b ∷ []) rest whole) [
       | inl w ↦ (
         (g, record { stands = m; rest = w.0 ∷ w.1; spelled = w.2 }),
-        (λ h v. absurd (let q = heads_are_apart v.fields g (w.0 ∷ w.1) [] v.stands.spelled m.spelled (ap (λ z. z ++ w.0 ∷ w.1) v.spelled ∙ sym w.2 ∙ sym (append-nil (octets g))) in
+        (λ h v. absurd (let q = heads_are_unambiguous v.fields g (w.0 ∷ w.1) [] v.stands.spelled m.spelled (ap (λ z. z ++ w.0 ∷ w.1) v.spelled ∙ sym w.2 ∙ sym (append-nil (octets g))) in
             let e = q.1 in cc)),
       )
       | inr w ↦
           let z : w.0 ≡ [] = past_open spot g xs w.0 b o m.spelled w.1 in
           let f : octets g ≡ xs ++ b ∷ [] = sym (w.1 ∙ ap (λ y. octets g ++ y) z ∙ append-nil (octets g)) in (
             (g, record { stands = m; rest = []; spelled = f ∙ sym (append-nil (xs ++ b ∷ [])) }),
-            (λ h v. (sym v.read ∙ ap head (heads_are_apart v.fields g [] [] v.stands.spelled m.spelled (ap (λ z. z ++ []) (v.spelled ∙ sym f))).0, sym (w.2 ∙ ap (λ y. y ++ rest) z))),
+            (λ h v. (sym v.read ∙ ap head (heads_are_unambiguous v.fields g [] [] v.stands.spelled m.spelled (ap (λ z. z ++ []) (v.spelled ∙ sym f))).0, sym (w.2 ∙ ap (λ y. y ++ rest) z))),
           )
     ]
 

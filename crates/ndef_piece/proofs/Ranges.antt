@@ -6,7 +6,7 @@ use Rattle.ndef_format.specs.Records.{HeadFields, octets, HasShape, tnf_of}
 use Rattle.ndef_piece.specs.declared.head.Head.{Head}
 use Rattle.ndef_format.specs.declared.spot.Spot.{Spot}
 use Rattle.ndef_piece.specs.Bounds.{IsIn}
-use Rattle.ndef_format.specs.Positions.{MayStand, IsOpen}
+use Rattle.ndef_format.specs.Positions.{MayOccur, IsOpen}
 use Rattle.ndef_piece.specs.Heads.{IsWholeHead, BeginsHead, IsRange}
 use Rattle.ndef_piece.specs.Ranges.{range_of}
 use Rattle.ndef_piece.proofs.Apart.{only_head}
@@ -47,7 +47,7 @@ any_inside true e = refl
 any_inside false e = cc
 
 -- a head that may stand at the spot, with a payload length that has room
-pub any_stands : (spot : Spot) (n : ℕ) → n < 2 ^ 32 → n ≤ spot.room → MayStand spot (any_head spot n)
+pub any_stands : (spot : Spot) (n : ℕ) → n < 2 ^ 32 → n ≤ spot.room → MayOccur spot (any_head spot n)
 any_stands spot n below small =
     let t = any_small spot.inside in
     record {

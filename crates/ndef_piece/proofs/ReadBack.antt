@@ -9,7 +9,7 @@ use Rattle.ndef_piece.specs.declared.head.Head.{Head}
 use Rattle.ndef_format.specs.declared.tnf.Tnf.TheVariants.{Empty, WellKnown, Media, AbsoluteUri, External, Unknown, Unchanged}
 use Rattle.ndef_format.specs.declared.spot.Spot.{Spot}
 use Rattle.ndef_piece.specs.Heads.{head, written_fields, IsWholeHead}
-use Rattle.ndef_format.specs.Positions.{CanBeSpelled, MayStand}
+use Rattle.ndef_format.specs.Positions.{CanBeSpelled, MayOccur}
 use Rattle.ndef_format.specs.HeadReasons.{is_set, tnf_number, width, least_from}
 use Rattle.ndef_piece.specs.Ranges.{length_front}
 use Rattle.ndef_piece.proofs.Lengths.{octet_count, length_octets, whole_number}
@@ -76,5 +76,5 @@ written_head : (h : Head) → head (written_fields h) ≡ h
 written_head h = rw (same_name h.tnf) refl
 
 -- wherever it may stand
-pub written_is_read : (spot : Spot) (h : Head) → MayStand spot (written_fields h) → IsWholeHead spot (octets (written_fields h)) h
+pub written_is_read : (spot : Spot) (h : Head) → MayOccur spot (written_fields h) → IsWholeHead spot (octets (written_fields h)) h
 written_is_read spot h m = record { fields = written_fields h; stands = m; spelled = refl; read = written_head h }

@@ -1,4 +1,4 @@
--- No condition holds of an octet of a head that may stand.
+-- No condition holds of an octet of a head that may occur.
 use Rattle.std.proofs.Common.{◌≡◌, ℕ, ◌<◌, Bool, true, false, refl, ◌∙◌, ap, arith, [], ◌∷◌, None}
 use Rattle.std.specs.Prelude.{◌==◌, nat_lt, not, ◌&&◌}
 use Rattle.std.proofs.lemmas.Bool.{ltb-true, eqb-true, ne_eqb, not-true, and_parts}
@@ -6,7 +6,7 @@ use Rattle.ndef_format.specs.Records.{HeadFields, HasShape, IsRead, tnf_of}
 use Rattle.ndef_format.specs.declared.profile.Profile.{Profile}
 use Rattle.ndef_format.specs.declared.profile.Profile.TheVariants.{Strict, Standard}
 use Rattle.ndef_format.specs.declared.spot.Spot.{Spot}
-use Rattle.ndef_format.specs.Positions.{MayStand}
+use Rattle.ndef_format.specs.Positions.{MayOccur}
 use Rattle.ndef_format.specs.HeadReasons.{tnf_number, is_strict, reason_for}
 use Rattle.ndef_piece.specs.HeaderLaws.{HeaderParts}
 use Rattle.ndef_piece.proofs.Sorts.{empty, named, unnamed, sort}
@@ -18,7 +18,7 @@ strict_read Strict n h e = ne_eqb n 7 (λ f. omega arith)
 strict_read Standard n h e = cc
 
 -- no condition holds of the header octet
-pub header_fits : (spot : Spot) (h : HeadFields) (i : Bool) (n : ℕ) → MayStand spot h → HeaderParts n h.first h.last h.chunked h.short i h.tnf
+pub header_fits : (spot : Spot) (h : HeadFields) (i : Bool) (n : ℕ) → MayOccur spot h → HeaderParts n h.first h.last h.chunked h.short i h.tnf
     → (spot.inside ≡ true → i ≡ false) → reason_for spot [] n ≡ None
 header_fits spot h i n m p no_id =
     rw (p.begins, p.ends, p.chunked, p.id_there, p.tnf)

@@ -4,13 +4,13 @@ use Rattle.std.proofs.lemmas.List.{append-nil}
 use Rattle.ndef_format.specs.Messages.{all_pieces, Item, SpellsPieces}
 use Rattle.ndef_format.specs.Records.{Piece, IsPiece, HeadFields, fields, octets, body}
 use Rattle.ndef_format.specs.Limits.{LimitValues}
-use Rattle.ndef_format.specs.Positions.{MayStand, IsOpen}
+use Rattle.ndef_format.specs.Positions.{MayOccur, IsOpen}
 use Rattle.ndef_piece.specs.Heads.{IsViableHead}
 use Rattle.ndef_piece.specs.Walk.{record_with, Before, spot, ending_record, after, Walk}
 use Rattle.ndef_piece.specs.Rest.{RestsCanFollow, Rest, RestsSpell, RestsEnd, RestsPastHeads, RestsWithinHeads}
 use Rattle.ndef_value.specs.ListLaws.{split_append}
 use Rattle.ndef_piece.proofs.PieceHeads.{zero_piece, zero_head, zero_fits, heads_of_pieces, pieces_of_heads}
-use Rattle.ndef_piece.proofs.Apart.{heads_are_apart, open_not_past}
+use Rattle.ndef_piece.proofs.Apart.{heads_are_unambiguous, open_not_past}
 use Rattle.ndef_piece.proofs.Walks.{walks_are_messages}
 use Rattle.ndef_piece.proofs.WalksOn.{walks_can_end}
 use Rattle.std.proofs.lemmas.Bool.{cases_Bool, both_ways}
@@ -32,16 +32,16 @@ rests_end limits c bytes items o = (to, λ w. ([], (o, w.1), w.0)) where
     by_pieces (p ∷ ps) w s = absurd (both_ways c.over w.0 o)
 
 -- the first piece has the head
-past : (limits : LimitValues) (c : Before) (f : HeadFields) (bytes : List ℕ) (items : List Item) → c.over ≡ false → MayStand (spot limits.profile c) f
+past : (limits : LimitValues) (c : Before) (f : HeadFields) (bytes : List ℕ) (items : List Item) → c.over ≡ false → MayOccur (spot limits.profile c) f
     → (ps : List Piece) → Walk limits c ps items → SpellsPieces ps (octets f ++ bytes)
     → (p : Piece) × (later : List ℕ) × (rest : List Item) × IsPiece p × (fields p f.short ≡ f) × (bytes ≡ body p ++ later) × (items ≡ ending_record c p ++ rest) × Rest limits (after limits c p) later rest
 past limits c f bytes items o m [] w s = absurd (both_ways c.over o w.0)
 past limits c f bytes items o m (p ∷ ps) w s =
     let v = s.4 in
     let g = fields p s.0 in
-    let n : MayStand (spot limits.profile c) g = (heads_of_pieces (spot limits.profile c) p s.0 v.piece v.form).0 w.1 in
+    let n : MayOccur (spot limits.profile c) g = (heads_of_pieces (spot limits.profile c) p s.0 v.piece v.form).0 w.1 in
     let e : octets f ++ bytes ≡ octets g ++ (body p ++ s.2) = s.3 ∙ ap (λ z. z ++ s.2) v.spelled ∙ append_assoc (octets g) (body p) s.2 in
-    let q = heads_are_apart f g bytes (body p ++ s.2) m.spelled n.spelled e in
+    let q = heads_are_unambiguous f g bytes (body p ++ s.2) m.spelled n.spelled e in
     let short : f.short ≡ s.0 = ap (λ z. z.short) q.0 in
     (p, s.2, w.2, v.piece, ap (fields p) short ∙ sym q.0, q.1, w.3, (ps, w.4, s.5))
 
@@ -62,7 +62,7 @@ within limits c xs bytes items o h [] w s = absurd (both_ways c.over o w.0)
 within limits c xs bytes items o h (p ∷ ps) w s =
     let v = s.4 in
     let g = fields p s.0 in
-    let n : MayStand (spot limits.profile c) g = (heads_of_pieces (spot limits.profile c) p s.0 v.piece v.form).0 w.1 in
+    let n : MayOccur (spot limits.profile c) g = (heads_of_pieces (spot limits.profile c) p s.0 v.piece v.form).0 w.1 in
     let e : octets g ++ (body p ++ s.2) ≡ xs ++ bytes = sym (s.3 ∙ ap (λ z. z ++ s.2) v.spelled ∙ append_assoc (octets g) (body p) s.2) in
     elim (split_append (octets g) (body p ++ s.2) xs bytes e) [
       | inl w ↦ (w.0, w.1 ++ (body p ++ s.2), w.3, (g, record { stands = n; rest = w.1; spelled = w.2 ∙ sym (append_assoc xs (w.0 ∷ []) w.1) }))

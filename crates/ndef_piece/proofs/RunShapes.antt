@@ -1,4 +1,4 @@
--- What a piece says of the record that its run means.
+-- The properties of the record of a run by a piece of it.
 use Rattle.std.proofs.Common.{ℕ, sym, subst, arith, List, [], ◌∷◌, ◌++◌, length, length-append}
 use Rattle.std.specs.Prelude.{unwrap_or}
 use Rattle.std.proofs.lemmas.List.{append-nil}

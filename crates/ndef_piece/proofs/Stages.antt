@@ -1,4 +1,4 @@
--- Where the next octet of a head stands.
+-- The field of the next octet of a head.
 use Rattle.std.proofs.Common.{◌≡◌, ℕ, inl, inr, refl, sym, ◌∙◌, ap, List, [], ◌∷◌, ◌++◌, Option, Some, None}
 use Rattle.ndef_format.specs.Records.{HeadFields, octets, payload_length_octets, id_length_octets}
 use Rattle.ndef_piece.specs.HeaderLaws.{header}

@@ -1,4 +1,4 @@
--- Where no condition holds of an octet, some head that may stand goes on with it.
+-- If no condition holds of an octet, some head that may occur continues with it.
 use Rattle.std.proofs.Common.{◌≡◌, ◌≢◌, ℕ, zero, suc, ◌^◌, ◌<◌, ◌≤◌, inl, inr, Bool, true, false, cond, refl, sym, ◌∙◌, ap, subst, arith, List, [], ◌∷◌, ◌++◌, length, Option, Some, None, append_assoc, length-append}
 use Rattle.std.specs.Prelude.{is_some, ◌==◌, not, ◌&&◌, nat_lt, unwrap_or}
 use Rattle.std.proofs.lemmas.Bool.{lt-ltb, ltb-false, eqb-false, eqb-true, eq-eqb, not-false, and_from}
@@ -7,7 +7,7 @@ use Rattle.ndef_format.specs.Records.{HeadFields, HasShape, IsRead, tnf_of, head
 use Rattle.ndef_format.specs.declared.profile.Profile.{Profile}
 use Rattle.ndef_format.specs.declared.profile.Profile.TheVariants.{Strict, Standard}
 use Rattle.ndef_format.specs.declared.spot.Spot.{Spot}
-use Rattle.ndef_format.specs.Positions.{MayStand, IsOpen}
+use Rattle.ndef_format.specs.Positions.{MayOccur, IsOpen}
 use Rattle.ndef_piece.specs.Heads.{BeginsHead, IsViableHead}
 use Rattle.ndef_format.specs.HeadReasons.{is_set, tnf_number, is_strict, least_from, reason_for}
 use Rattle.ndef_piece.specs.Ranges.{greatest_from}
@@ -98,7 +98,7 @@ header_taken spot b below e =
     let t : tnf_number b < 8 = omega arith in
     let i = least_id_there (is_set 3 b) in
     let z = least_id_zero (is_set 3 b) in
-    let stands : MayStand spot (least_head b) = record {
+    let stands : MayOccur spot (least_head b) = record {
       spelled = record { tnf = t; kind = least_kind_small (tnf_number b); payload = omega arith; form = zero_form (is_set 4 b); id = rw z (omega arith) };
       read = read_from spot.profile (tnf_number b) t r1.0;
       shape = rw z (least_shape (tnf_number b) t);
@@ -127,8 +127,8 @@ header_taken spot b below e =
 -- ---- a head with one length changed
 
 -- the head h with another payload length
-with_payload : (spot : Spot) (h : HeadFields) (n : ℕ) → MayStand spot h → h.tnf ≢ 0 → n < 2 ^ 32 → FitsForm h.short n → n ≤ spot.room
-    → MayStand spot (record h { payload_length = n })
+with_payload : (spot : Spot) (h : HeadFields) (n : ℕ) → MayOccur spot h → h.tnf ≢ 0 → n < 2 ^ 32 → FitsForm h.short n → n ≤ spot.room
+    → MayOccur spot (record h { payload_length = n })
 with_payload spot h n s not_empty below form small = record {
   spelled = record { tnf = s.spelled.tnf; kind = s.spelled.kind; payload = below; form = form; id = s.spelled.id };
   read = s.read;
@@ -162,7 +162,7 @@ kind_shape t h k i n m s e f g =
     ]
 
 -- the head h goes on with another type length of which no condition holds
-kind_taken : (spot : Spot) (h : HeadFields) (b : ℕ) → MayStand spot h → b < 256 → reason_for spot (header h ∷ []) b ≡ None → IsViableHead spot (header h ∷ b ∷ [])
+kind_taken : (spot : Spot) (h : HeadFields) (b : ℕ) → MayOccur spot h → b < 256 → reason_for spot (header h ∷ []) b ≡ None → IsViableHead spot (header h ∷ b ∷ [])
 kind_taken spot h b s below e =
     let p = (header_parts h s.spelled.tnf).tnf in
     let e' = rw p at e in
@@ -188,7 +188,7 @@ kind_taken spot h b s below e =
     )
 
 -- the head h with another payload length, whose octets begin alike
-other_length : (spot : Spot) (h : HeadFields) (ls : List ℕ) (n : ℕ) → MayStand spot h → h.tnf ≢ 0 → AreOctets ls → length ls ≤ octet_count h.short
+other_length : (spot : Spot) (h : HeadFields) (ls : List ℕ) (n : ℕ) → MayOccur spot h → h.tnf ≢ 0 → AreOctets ls → length ls ≤ octet_count h.short
     → least_from (octet_count h.short) ls ≤ n → n ≤ greatest_from (octet_count h.short) ls → n ≤ spot.room
     → BeginsHead spot (header h ∷ h.kind_length ∷ ls) (record h { payload_length = n })
 other_length spot h ls n s t o l p q small =
@@ -201,7 +201,7 @@ other_length spot h ls n s t o l p q small =
     }
 
 -- some head goes on with an octet of PAYLOAD_LENGTH of which no condition holds
-length_taken : (spot : Spot) (h : HeadFields) (ls m : List ℕ) (a b : ℕ) → MayStand spot h → b < 256 → length_part h ≡ ls ++ a ∷ m
+length_taken : (spot : Spot) (h : HeadFields) (ls m : List ℕ) (a b : ℕ) → MayOccur spot h → b < 256 → length_part h ≡ ls ++ a ∷ m
     → reason_for spot (header h ∷ h.kind_length ∷ ls) b ≡ None → IsViableHead spot (header h ∷ h.kind_length ∷ (ls ++ b ∷ []))
 length_taken spot h ls m a b s below e none =
     let l = length_octets h.short h.payload_length s.spelled.form in
@@ -244,7 +244,7 @@ id_shape t h k i n b s e =
     ]
 
 -- the head h goes on with another id length of which no condition holds
-id_taken : (spot : Spot) (h : HeadFields) (a b : ℕ) → MayStand spot h → b < 256 → h.id_length ≡ Some a
+id_taken : (spot : Spot) (h : HeadFields) (a b : ℕ) → MayOccur spot h → b < 256 → h.id_length ≡ Some a
     → reason_for spot (header h ∷ h.kind_length ∷ length_part h) b ≡ None → IsViableHead spot (header h ∷ h.kind_length ∷ (length_part h ++ b ∷ []))
 id_taken spot h a b s below e none =
     let none' = rw (past_length h s.spelled, (header_parts h s.spelled.tnf).tnf) at none in

@@ -1,4 +1,4 @@
--- What is known after the pieces of a front: the runs that are complete, and the pieces of the open one.
+-- The state after the pieces of a front: the runs that are complete, and the pieces of the open one.
 use Rattle.std.proofs.Common.{◌≡◌, ℕ, ◌+◌, ◌-◌, inl, inr, Bool, true, false, refl, sym, ◌∙◌, ap, subst, arith, List, [], ◌∷◌, ◌++◌, length, map, append_assoc, length-append, Some, None, ne_eqb}
 use Rattle.std.specs.Prelude.{◌==◌, unwrap_or, if◌then◌else◌}
 use Rattle.std.specs.List.{AllByRecursion}
@@ -9,7 +9,7 @@ use Rattle.std.proofs.lemmas.Grind.{flat_map-append}
 use Rattle.ndef_format.specs.Records.{Piece, Run, pieces, tnf_of, Follow}
 use Rattle.ndef_format.specs.Messages.{Item, payload_of, run_record, all_pieces, EndsOnce}
 use Rattle.ndef_format.specs.Limits.{LimitValues}
-use Rattle.ndef_format.specs.Positions.{spot_after, PiecesStand, RunsStand, AreBefore, NoneLast, Stands}
+use Rattle.ndef_format.specs.Positions.{spot_after, PiecesAreConsistent, RunsAreConsistent, AreBefore, NoneLast, IsConsistentAt}
 use Rattle.ndef_piece.specs.Field.{ended_run, PiecesGoOn}
 use Rattle.ndef_piece.specs.Walk.{Before, outside, inside, start, spot, record_with, ending_record, after, Walk, Walked, standing, WalksAreCounted}
 use Rattle.ndef_piece.proofs.RunShapes.{run}
@@ -61,15 +61,15 @@ one_left n k = elim (eqb_tells (k - n) 1) [
 ]
 
 -- what is known after these runs and these pieces of an open one
-abbrev behind : LimitValues → (over : Bool) → List Run → List Piece → Before
-behind limits over runs begun = standing limits (length runs == 0) over (limits.records - length runs) begun
+abbrev following : LimitValues → (over : Bool) → List Run → List Piece → Before
+following limits over runs begun = standing limits (length runs == 0) over (limits.records - length runs) begun
 
 none_less : (n : ℕ) → n ≡ n - 0
 none_less n = omega arith
 
 -- the spot follows from them
-spot_behind : (limits : LimitValues) (over : Bool) (runs : List Run) (begun : List Piece) → spot limits.profile (behind limits over runs begun) ≡ spot_after limits runs begun
-spot_behind limits over runs [] =
+spot_past : (limits : LimitValues) (over : Bool) (runs : List Run) (begun : List Piece) → spot limits.profile (following limits over runs begun) ≡ spot_after limits runs begun
+spot_past limits over runs [] =
     let pieces = ap (λ n. n == 1) (none_less limits.pieces) ∙ one_left 0 limits.pieces in (λ i. record {
       profile = limits.profile;
       first = length runs == 0;
@@ -78,7 +78,7 @@ spot_behind limits over runs [] =
       last_record = one_left (length runs) limits.records i;
       room = none_less limits.payload i;
     })
-spot_behind limits over runs (p ∷ begun) = (λ i. record {
+spot_past limits over runs (p ∷ begun) = (λ i. record {
   profile = limits.profile;
   first = false;
   inside = true;
@@ -97,19 +97,19 @@ whole_on : (runs : List Run) (r : Run) → AllByRecursion (λ r. Follow r.initia
 whole_on [] r h f = (f, tt)
 whole_on (q ∷ runs) r h f = (h.0, whole_on runs r h.1 f)
 
-pieces_stand : (limits : LimitValues) (runs : List Run) (begun ps : List Piece) (p : Piece) → PiecesStand limits runs begun ps → Stands (spot_after limits runs (begun ++ ps)) p → PiecesStand limits runs begun (ps ++ p ∷ [])
-pieces_stand limits runs begun [] p h s = (subst (λ x. Stands (spot_after limits runs x) p) (append-nil begun) s, tt)
-pieces_stand limits runs begun (q ∷ ps) p h s =
-    (h.0, pieces_stand limits runs (begun ++ q ∷ []) ps p h.1 (subst (λ x. Stands (spot_after limits runs x) p) (sym (append_assoc begun (q ∷ []) ps)) s))
+pieces_are_consistent : (limits : LimitValues) (runs : List Run) (begun ps : List Piece) (p : Piece) → PiecesAreConsistent limits runs begun ps → IsConsistentAt (spot_after limits runs (begun ++ ps)) p → PiecesAreConsistent limits runs begun (ps ++ p ∷ [])
+pieces_are_consistent limits runs begun [] p h s = (subst (λ x. IsConsistentAt (spot_after limits runs x) p) (append-nil begun) s, tt)
+pieces_are_consistent limits runs begun (q ∷ ps) p h s =
+    (h.0, pieces_are_consistent limits runs (begun ++ q ∷ []) ps p h.1 (subst (λ x. IsConsistentAt (spot_after limits runs x) p) (sym (append_assoc begun (q ∷ []) ps)) s))
 
-runs_stand : (limits : LimitValues) (before runs : List Run) (r : Run) → RunsStand limits before runs → PiecesStand limits (before ++ runs) [] (pieces r) → RunsStand limits before (runs ++ r ∷ [])
-runs_stand limits before [] r h s = (subst (λ x. PiecesStand limits x [] (pieces r)) (append-nil before) s, tt)
-runs_stand limits before (q ∷ runs) r h s =
-    (h.0, runs_stand limits (before ++ q ∷ []) runs r h.1 (subst (λ x. PiecesStand limits x [] (pieces r)) (sym (append_assoc before (q ∷ []) runs)) s))
+runs_are_consistent : (limits : LimitValues) (before runs : List Run) (r : Run) → RunsAreConsistent limits before runs → PiecesAreConsistent limits (before ++ runs) [] (pieces r) → RunsAreConsistent limits before (runs ++ r ∷ [])
+runs_are_consistent limits before [] r h s = (subst (λ x. PiecesAreConsistent limits x [] (pieces r)) (append-nil before) s, tt)
+runs_are_consistent limits before (q ∷ runs) r h s =
+    (h.0, runs_are_consistent limits (before ++ q ∷ []) runs r h.1 (subst (λ x. PiecesAreConsistent limits x [] (pieces r)) (sym (append_assoc before (q ∷ []) runs)) s))
 
 -- pieces of an open run, and one that ends it, follow its first
 follows : (limits : LimitValues) (runs : List Run) (q : Piece) (begun ps : List Piece) (p : Piece) (c : Bool) → c ≡ true → AllByRecursion (λ q. q.chunked ≡ true) ps
-    → PiecesStand limits runs (q ∷ begun) (ps ++ p ∷ []) → p.chunked ≡ false → Follow c (ps ++ p ∷ [])
+    → PiecesAreConsistent limits runs (q ∷ begun) (ps ++ p ∷ []) → p.chunked ≡ false → Follow c (ps ++ p ∷ [])
 follows limits runs q begun [] p c e h s f = (e, s.0.later refl, f)
 follows limits runs q begun (x ∷ ps) p c e h s f = (e, s.0.later refl, follows limits runs q (begun ++ x ∷ []) ps p x.chunked h.0 h.1 s.1 f)
 
@@ -122,27 +122,27 @@ ended_regroup runs begun p =
     append_assoc (all_pieces runs) begun (p ∷ []) ∙ ap (λ x. all_pieces runs ++ x) (sym (append-nil (pieces (ended_run begun p)) ∙ ended_pieces begun p))
     ∙ sym (flat_map-append pieces runs (ended_run begun p ∷ []))
 
-module _ (limits : LimitValues) (runs : List Run) (begun : List Piece) (p : Piece) (b : AreBefore limits runs begun) (stands : Stands (spot_after limits runs begun) p) where
+module _ (limits : LimitValues) (runs : List Run) (begun : List Piece) (p : Piece) (b : AreBefore limits runs begun) (stands : IsConsistentAt (spot_after limits runs begun) p) where
   run_goes_on : p.chunked ≡ true → AreBefore limits runs (begun ++ p ∷ [])
   run_goes_on c = record {
     whole = b.whole;
     going_on = going_on begun p b.going_on c;
-    runs_stand = b.runs_stand;
-    begun_stand = pieces_stand limits runs [] begun p b.begun_stand stands;
+    runs_are_consistent = b.runs_are_consistent;
+    begun_are_consistent = pieces_are_consistent limits runs [] begun p b.begun_are_consistent stands;
   }
 
   run_ends : p.chunked ≡ false → AreBefore limits (runs ++ ended_run begun p ∷ []) []
   run_ends c = record {
-    whole = whole_on runs (ended_run begun p) b.whole (follow_of begun b.going_on b.begun_stand stands);
+    whole = whole_on runs (ended_run begun p) b.whole (follow_of begun b.going_on b.begun_are_consistent stands);
     going_on = tt;
-    runs_stand = runs_stand limits [] runs (ended_run begun p) b.runs_stand (subst (PiecesStand limits runs []) (sym (ended_pieces begun p)) (pieces_stand limits runs [] begun p b.begun_stand stands));
-    begun_stand = tt;
+    runs_are_consistent = runs_are_consistent limits [] runs (ended_run begun p) b.runs_are_consistent (subst (PiecesAreConsistent limits runs []) (sym (ended_pieces begun p)) (pieces_are_consistent limits runs [] begun p b.begun_are_consistent stands));
+    begun_are_consistent = tt;
   }
     where
-      follow_of : (begun : List Piece) → AllByRecursion (λ q. q.chunked ≡ true) begun → PiecesStand limits runs [] begun → Stands (spot_after limits runs begun) p
+      follow_of : (begun : List Piece) → AllByRecursion (λ q. q.chunked ≡ true) begun → PiecesAreConsistent limits runs [] begun → IsConsistentAt (spot_after limits runs begun) p
           → Follow (ended_run begun p).initial.chunked (ended_run begun p).later
       follow_of [] h k t = c
-      follow_of (q ∷ begun) h k t = follows limits runs q [] begun p q.chunked h.0 h.1 (pieces_stand limits runs (q ∷ []) begun p k.1 t) c
+      follow_of (q ∷ begun) h k t = follows limits runs q [] begun p q.chunked h.0 h.1 (pieces_are_consistent limits runs (q ∷ []) begun p k.1 t) c
 
 pub pieces_go_on : PiecesGoOn
 pieces_go_on limits runs begun p b stands = (run_goes_on limits runs begun p b stands, run_ends limits runs begun p b stands)
@@ -156,10 +156,10 @@ record Counted (limits : LimitValues) (runs : List Run) (begun ps : List Piece) 
   pieces_are : (all_pieces runs ++ begun) ++ ps ≡ all_pieces all ++ rest
   done_are : map run_record runs ++ done ≡ map run_record all
   before : AreBefore limits all rest
-  known : d ≡ behind limits d.over all rest
+  known : d ≡ following limits d.over all rest
 
 -- between runs
-outside_more : (limits : LimitValues) (last : Bool) (runs : List Run) (r : Run) → outside limits false last (limits.records - length runs - 1) ≡ behind limits last (runs ++ r ∷ []) []
+outside_more : (limits : LimitValues) (last : Bool) (runs : List Run) (r : Run) → outside limits false last (limits.records - length runs - 1) ≡ following limits last (runs ++ r ∷ []) []
 outside_more limits last runs r =
     let n : length (runs ++ r ∷ []) ≡ length runs + 1 = length-append runs (r ∷ []) in
     let some : false ≡ (length (runs ++ r ∷ []) == 0) = sym (ne_eqb (length (runs ++ r ∷ [])) 0 (λ z. omega arith)) in
@@ -167,7 +167,7 @@ outside_more limits last runs r =
     (λ i. outside limits (some i) last (left i))
 
 -- the record of a run that has ended
-ended_item : (limits : LimitValues) (over : Bool) (runs : List Run) (begun : List Piece) (p : Piece) → record_with (behind limits over runs begun).begun p ≡ run_record (ended_run begun p)
+ended_item : (limits : LimitValues) (over : Bool) (runs : List Run) (begun : List Piece) (p : Piece) → record_with (following limits over runs begun).begun p ≡ run_record (ended_run begun p)
 ended_item limits over runs [] p = joined_one p
 ended_item limits over runs (q ∷ begun) p = joined_more q begun p
 
@@ -175,34 +175,34 @@ ended_item limits over runs (q ∷ begun) p = joined_more q begun p
 chunk_after : (limits : LimitValues) (c : Before) (p : Piece) → p.chunked ≡ true → after limits c p ≡ inside c.records (c.pieces - 1) (c.room - length p.payload) (record_with c.begun p)
 chunk_after limits c p e = ap (λ b. if b then inside c.records (c.pieces - 1) (c.room - length p.payload) (record_with c.begun p) else outside limits false p.last (c.records - 1)) e
 
-behind_more : (limits : LimitValues) (over : Bool) (runs : List Run) (begun : List Piece) (p : Piece) → p.chunked ≡ true → after limits (behind limits over runs begun) p ≡ behind limits over runs (begun ++ p ∷ [])
-behind_more limits over runs [] p c = chunk_after limits (behind limits over runs []) p c ∙ inside_one limits (length runs == 0) over (limits.records - length runs) p
-behind_more limits over runs (q ∷ begun) p c =
-    chunk_after limits (behind limits over runs (q ∷ begun)) p c ∙ inside_more limits (length runs == 0) over (limits.records - length runs) q begun p
+after_more : (limits : LimitValues) (over : Bool) (runs : List Run) (begun : List Piece) (p : Piece) → p.chunked ≡ true → after limits (following limits over runs begun) p ≡ following limits over runs (begun ++ p ∷ [])
+after_more limits over runs [] p c = chunk_after limits (following limits over runs []) p c ∙ inside_one limits (length runs == 0) over (limits.records - length runs) p
+after_more limits over runs (q ∷ begun) p c =
+    chunk_after limits (following limits over runs (q ∷ begun)) p c ∙ inside_more limits (length runs == 0) over (limits.records - length runs) q begun p
 
-records_left : (limits : LimitValues) (over : Bool) (runs : List Run) (begun : List Piece) → (behind limits over runs begun).records ≡ limits.records - length runs
+records_left : (limits : LimitValues) (over : Bool) (runs : List Run) (begun : List Piece) → (following limits over runs begun).records ≡ limits.records - length runs
 records_left limits over runs [] = refl
 records_left limits over runs (q ∷ begun) = refl
 
-behind_over : (limits : LimitValues) (over : Bool) (runs : List Run) (begun : List Piece) → behind limits over runs begun ≡ behind limits (behind limits over runs begun).over runs begun
-behind_over limits over runs [] = refl
-behind_over limits over runs (q ∷ begun) = refl
+after_over : (limits : LimitValues) (over : Bool) (runs : List Run) (begun : List Piece) → following limits over runs begun ≡ following limits (following limits over runs begun).over runs begun
+after_over limits over runs [] = refl
+after_over limits over runs (q ∷ begun) = refl
 
 counted : (limits : LimitValues) (ps : List Piece) (over : Bool) (runs : List Run) (begun : List Piece) (done : List Item) (d : Before)
-    → AreBefore limits runs begun → Walked limits (behind limits over runs begun) ps done d → Counted limits runs begun ps done d
+    → AreBefore limits runs begun → Walked limits (following limits over runs begun) ps done d → Counted limits runs begun ps done d
 counted limits [] over runs begun done d b w = record {
   all = runs;
   rest = begun;
   pieces_are = append-nil (all_pieces runs ++ begun);
   done_are = ap (λ x. map run_record runs ++ x) w.0 ∙ append-nil (map run_record runs);
   before = b;
-  known = w.1 ∙ behind_over limits over runs begun ∙ ap (λ x. behind limits x.over runs begun) (sym w.1);
+  known = w.1 ∙ after_over limits over runs begun ∙ ap (λ x. following limits x.over runs begun) (sym w.1);
 }
 counted limits (p ∷ ps) over runs begun done d b w =
     elim (cases_Bool p.chunked) [
       | inl c ↦
-          let walk = subst (λ x. Walked limits x ps w.2 d) (behind_more limits over runs begun p c) w.4 in
-          let none : ending_record (behind limits over runs begun) p ≡ [] = ap (λ b. if b then [] else record_with (behind limits over runs begun).begun p ∷ []) c in
+          let walk = subst (λ x. Walked limits x ps w.2 d) (after_more limits over runs begun p c) w.4 in
+          let none : ending_record (following limits over runs begun) p ≡ [] = ap (λ b. if b then [] else record_with (following limits over runs begun).begun p ∷ []) c in
           let t = counted limits ps over runs (begun ++ p ∷ []) w.2 d (go.0 c) walk in
           record {
             all = t.all;
@@ -214,11 +214,11 @@ counted limits (p ∷ ps) over runs begun done d b w =
           }
       | inr c ↦
           let r = ended_run begun p in
-          let later : after limits (behind limits over runs begun) p ≡ behind limits p.last (runs ++ r ∷ []) [] =
+          let later : after limits (following limits over runs begun) p ≡ following limits p.last (runs ++ r ∷ []) [] =
           after_ended c ∙ outside_more limits p.last runs r in
           let walk = subst (λ x. Walked limits x ps w.2 d) later w.4 in
-          let one : ending_record (behind limits over runs begun) p ≡ run_record r ∷ [] =
-          ap (λ b. if b then [] else record_with (behind limits over runs begun).begun p ∷ []) c ∙ ap (λ x. x ∷ []) (ended_item limits over runs begun p) in
+          let one : ending_record (following limits over runs begun) p ≡ run_record r ∷ [] =
+          ap (λ b. if b then [] else record_with (following limits over runs begun).begun p ∷ []) c ∙ ap (λ x. x ∷ []) (ended_item limits over runs begun p) in
           let t = counted limits ps p.last (runs ++ r ∷ []) [] w.2 d (go.1 c) walk in
           record {
             all = t.all;
@@ -231,11 +231,11 @@ counted limits (p ∷ ps) over runs begun done d b w =
     ]
   where
     go : (p.chunked ≡ true → AreBefore limits runs (begun ++ p ∷ [])) × (p.chunked ≡ false → AreBefore limits (runs ++ ended_run begun p ∷ []) [])
-    go = pieces_go_on limits runs begun p b (subst (λ x. Stands x p) (spot_behind limits over runs begun) w.1)
+    go = pieces_go_on limits runs begun p b (subst (λ x. IsConsistentAt x p) (spot_past limits over runs begun) w.1)
 
-    after_ended : p.chunked ≡ false → after limits (behind limits over runs begun) p ≡ outside limits false p.last (limits.records - length runs - 1)
+    after_ended : p.chunked ≡ false → after limits (following limits over runs begun) p ≡ outside limits false p.last (limits.records - length runs - 1)
     after_ended c =
-        let d = behind limits over runs begun in
+        let d = following limits over runs begun in
         ap (λ b. if b then inside d.records (d.pieces - 1) (d.room - length p.payload) (record_with d.begun p) else outside limits false p.last (d.records - 1)) c
         ∙ ap (λ n. outside limits false p.last (n - 1)) (records_left limits over runs begun)
 
@@ -252,11 +252,11 @@ none_last limits c (p ∷ []) items d w e = (over_after limits c p false (ap (λ
 none_last limits c (p ∷ q ∷ ps) items d w e = (over_after limits c p false w.4.0 w.1, none_last limits (after limits c p) (q ∷ ps) w.2 d w.4 e)
 
 none_yet : (limits : LimitValues) → AreBefore limits [] []
-none_yet limits = record { whole = tt; going_on = tt; runs_stand = tt; begun_stand = tt }
+none_yet limits = record { whole = tt; going_on = tt; runs_are_consistent = tt; begun_are_consistent = tt }
 
 pub walks_are_counted : WalksAreCounted
 walks_are_counted limits ps done d w =
-    let none_ended : start limits ≡ behind limits false [] [] = ap (outside limits true false) (none_less limits.records) in
+    let none_ended : start limits ≡ following limits false [] [] = ap (outside limits true false) (none_less limits.records) in
     let t = counted limits ps false [] [] done d (none_yet limits) (subst (λ x. Walked limits x ps done d) none_ended w) in
     record {
       runs = t.all;
@@ -264,16 +264,16 @@ walks_are_counted limits ps done d w =
       pieces_are = t.pieces_are;
       done_are = t.done_are;
       before = t.before;
-      spot_is = ap (spot limits.profile) t.known ∙ spot_behind limits d.over t.all t.rest;
-      known = t.known ∙ behind_first limits d.over t.all t.rest ∙ ap (λ x. standing limits x.first d.over (limits.records - length t.all) t.rest) (sym t.known);
+      spot_is = ap (spot limits.profile) t.known ∙ spot_past limits d.over t.all t.rest;
+      known = t.known ∙ after_first limits d.over t.all t.rest ∙ ap (λ x. standing limits x.first d.over (limits.records - length t.all) t.rest) (sym t.known);
       over = λ e. ends ps w e;
       not_over = λ e. none_last limits (start limits) ps done d w e;
     }
   where
-    behind_first : (limits : LimitValues) (over : Bool) (runs : List Run) (begun : List Piece)
-        → behind limits over runs begun ≡ standing limits (behind limits over runs begun).first over (limits.records - length runs) begun
-    behind_first limits over runs [] = refl
-    behind_first limits over runs (q ∷ begun) = refl
+    after_first : (limits : LimitValues) (over : Bool) (runs : List Run) (begun : List Piece)
+        → following limits over runs begun ≡ standing limits (following limits over runs begun).first over (limits.records - length runs) begun
+    after_first limits over runs [] = refl
+    after_first limits over runs (q ∷ begun) = refl
 
     ends : (ps : List Piece) → Walked limits (start limits) ps done d → d.over ≡ true → EndsOnce ps
     ends [] w e = absurd (false≢true (ap (λ x. x.over) (sym w.1) ∙ e))

@@ -7,7 +7,7 @@ use Rattle.std.proofs.lemmas.Bool.{eqb-false, cases_Bool, false≢true}
 use Rattle.ndef_format.specs.Records.{Piece, Run, Follow, IsRun, pieces, tnf_of}
 use Rattle.ndef_format.specs.Messages.{Item, IsShaped, payload_of, run_record, EndsOnce, all_pieces}
 use Rattle.ndef_format.specs.Limits.{LimitValues}
-use Rattle.ndef_format.specs.Positions.{Stands}
+use Rattle.ndef_format.specs.Positions.{IsConsistentAt}
 use Rattle.ndef_piece.specs.Walk.{Before, outside, inside, spot, after, Walk}
 use Rattle.ndef_piece.proofs.RunShapes.{run, grown, shaped_run}
 
@@ -163,7 +163,7 @@ later_firsts limits c [] items f w = tt
 later_firsts limits c (p ∷ ps) items f w = (w.1.begins ∙ f, later_firsts limits (after limits c p) ps w.2 (not_first limits c p) w.4)
 
 -- the message is over after the piece with ME
-pub over_after : (limits : LimitValues) (c : Before) (p : Piece) (b : Bool) → (after limits c p).over ≡ b → Stands (spot limits.profile c) p → p.last ≡ b
+pub over_after : (limits : LimitValues) (c : Before) (p : Piece) (b : Bool) → (after limits c p).over ≡ b → IsConsistentAt (spot limits.profile c) p → p.last ≡ b
 over_after limits c p b e s =
     elim (cases_Bool p.chunked) [
       | inl k ↦ (s.chunked k).0 ∙ (rw k at e)

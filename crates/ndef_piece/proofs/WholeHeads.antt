@@ -5,10 +5,10 @@ use Rattle.std.specs.Bool.{then_some}
 use Rattle.std.proofs.Math.Seq.{take-append_seam}
 use Rattle.ndef_format.specs.Records.{FitsForm, AreOctets, octets, header_octet, payload_length_octets, id_length_octets}
 use Rattle.ndef_value.specs.ListLaws.{octets_front, octets_back}
-use Rattle.ndef_value.specs.SliceLaws.{rest_from, cut_two, octet_at, octets_behind}
+use Rattle.ndef_value.specs.SliceLaws.{rest_from, cut_two, octet_at, octets_after}
 use Rattle.ndef_format.specs.HeadReasons.{is_set}
 use Rattle.ndef_piece.specs.Heads.{head}
-use Rattle.ndef_format.specs.Positions.{CanBeSpelled, MayStand}
+use Rattle.ndef_format.specs.Positions.{CanBeSpelled, MayOccur}
 use Rattle.ndef_piece.specs.Whole.{BeginWithHead, fields_of}
 use Rattle.ndef_piece.specs.declared.head.Head.{Head}
 use Rattle.ndef_format.specs.declared.spot.Spot.{Spot}
@@ -33,7 +33,7 @@ then_is false i = refl
 pub head_from : (spot : Spot) (bytes : List ℕ) (h : Head) → AreOctets bytes → 2 ≤ length bytes → (n i : ℕ) (r1 rest : List ℕ) → n < 2 ^ 32 → FitsForm (is_set 4 (get_or bytes 0 0)) n
     → rest_from 2 bytes ≡ payload_length_octets (is_set 4 (get_or bytes 0 0)) n ++ r1 → r1 ≡ id_length_octets (if is_set 3 (get_or bytes 0 0) then Some i else None) ++ rest
     → head (fields_of (get_or bytes 0 0) (get_or bytes 1 0) i n) ≡ h
-    → (CanBeSpelled (fields_of (get_or bytes 0 0) (get_or bytes 1 0) i n) → MayStand spot (fields_of (get_or bytes 0 0) (get_or bytes 1 0) i n))
+    → (CanBeSpelled (fields_of (get_or bytes 0 0) (get_or bytes 1 0) i n) → MayOccur spot (fields_of (get_or bytes 0 0) (get_or bytes 1 0) i n))
     → BeginWithHead spot bytes h (length bytes - length rest)
 head_from spot bytes h all two n i r1 rest small form e1 e2 read stands =
     let header = get_or bytes 0 0 in
@@ -42,7 +42,7 @@ head_from spot bytes h all two n i r1 rest small form e1 e2 read stands =
     let pl = payload_length_octets (is_set 4 header) n in
     let il = id_length_octets f.id_length in
     let b0 : rest_from 2 bytes ≡ pl ++ (il ++ rest) = e1 ∙ ap (λ x. pl ++ x) e2 in
-    let o0 : AreOctets (pl ++ (il ++ rest)) = subst AreOctets b0 (octets_behind 2 bytes all) in
+    let o0 : AreOctets (pl ++ (il ++ rest)) = subst AreOctets b0 (octets_after 2 bytes all) in
     let o1 = octets_front il rest (octets_back pl _ o0) in
     let header_is : header_octet f.first f.last f.chunked f.short (is_some f.id_length) f.tnf ≡ header =
     ap (λ t. header_octet f.first f.last f.chunked f.short t f.tnf) (there_is (is_set 3 header) i) ∙ sym (octet_of_parts header (octet_at bytes 0 all)) in

@@ -25,8 +25,8 @@ pub record AreWithin (f : HeadFields) (count : ℕ) (b : Bounds) : Type 0 where
   pub id : IsIn (unwrap_or f.id_length 0) b.id
   pub payload : IsIn f.payload_length b.payload
 
--- The heads that may stand at the spot and go on after these octets lie within the bounds,
--- and all lengths within them are had together.
+-- The heads that may occur at the spot and continue these octets lie within the bounds,
+-- and for any lengths within them some such head has all of these.
 pub record AreBounds (spot : Spot) (xs : List ℕ) (b : Bounds) : Type 0 where
   pub sound : (f : HeadFields) (begun : BeginsHead spot xs f) → AreWithin f (length begun.rest) b
   pub full : (kind id payload : ℕ) → IsIn kind b.kind → IsIn id b.id → IsIn payload b.payload

@@ -6,7 +6,7 @@ use Rattle.ndef_format.specs.HeadReasons.{conditions}
 
 -- ---- laws
 
--- The conditions stand by the numbers of their reasons, 1 to 14.
+-- The conditions are listed by the numbers of their reasons, 1 to 14.
 abbrev pub ConditionsAreInOrder : Type 0
 ConditionsAreInOrder = (spot : Spot) (xs : List ℕ) (b : ℕ)
     → map (λ c. reason_number c.0) (conditions spot xs b)

@@ -2,9 +2,9 @@
 use Rattle.std.specs.Prelude.{◌≡◌, ℕ, true, false, List, [], ◌∷◌, ◌++◌}
 use Rattle.ndef_format.specs.Records.{Piece, Run}
 use Rattle.ndef_format.specs.Limits.{LimitValues}
-use Rattle.ndef_format.specs.Positions.{Stands, Field, spot_after, AreBefore, IsAt}
+use Rattle.ndef_format.specs.Positions.{IsConsistentAt, Field, spot_after, AreBefore, IsAt}
 
--- ---- what stands before a field
+-- -- the pieces before a field
 
 -- NDEF 1.0, chunked payloads: the run whose last piece comes after these
 abbrev pub ended_run : (begun : List Piece) → Piece → Run
@@ -21,10 +21,10 @@ OneField = (limits : LimitValues) (bytes : List ℕ) (runs others : List Run) (b
     × (begun ≡ opened)
     × (field ≡ other)
 
--- A piece that stands after others goes on with the open run, and where its CF is clear it ends it.
+-- A piece that follows others goes on with the open run, and if its CF is clear it ends it.
 abbrev pub PiecesGoOn : Type 0
 PiecesGoOn = (limits : LimitValues) (runs : List Run) (begun : List Piece) (p : Piece)
     → AreBefore limits runs begun
-    → Stands (spot_after limits runs begun) p
+    → IsConsistentAt (spot_after limits runs begun) p
     → (p.chunked ≡ true → AreBefore limits runs (begun ++ p ∷ []))
     × (p.chunked ≡ false → AreBefore limits (runs ++ ended_run begun p ∷ []) [])

@@ -1,9 +1,9 @@
--- Which piece may come next in a message within the limits.
+-- The pieces that may come next in a message within the limits.
 use Rattle.std.specs.Prelude.{◌≡◌, Bool, true, false, List, [], ◌∷◌, ◌++◌, ◌↔◌}
 use Rattle.ndef_format.specs.Records.{Piece, Run}
 use Rattle.ndef_format.specs.Messages.{Item, all_pieces, IsMessage}
 use Rattle.ndef_format.specs.Limits.{LimitValues, AreInRange, IsWithin}
-use Rattle.ndef_format.specs.Positions.{Stands, spot_after}
+use Rattle.ndef_format.specs.Positions.{IsConsistentAt, spot_after}
 
 -- NDEF 1.0, messages: these are the pieces of a message within the limits
 abbrev pub AreMessage : LimitValues → List Piece → Type 0
@@ -15,7 +15,7 @@ abbrev pub BeginMessage : LimitValues → List Piece → Type 0
 BeginMessage limits ps = (more : List Piece) × AreMessage limits (ps ++ more)
 
 -- the pieces are those of complete runs and of an open one, and the spot after them allows exactly
--- what may come next
+-- the pieces that may come next
 pub record IsPosition (limits : LimitValues) (ps : List Piece) : Type 0 where
   pub runs : List Run
   -- the pieces of the open run, none where no run is open
@@ -24,12 +24,12 @@ pub record IsPosition (limits : LimitValues) (ps : List Piece) : Type 0 where
   pub pieces_are : ps ≡ all_pieces runs ++ begun
   pub whole : (over ≡ true) ↔ AreMessage limits ps
   pub next : (p : Piece) → BeginMessage limits (ps ++ p ∷ [])
-      ↔ ((over ≡ false) × Stands (spot_after limits runs begun) p)
+      ↔ ((over ≡ false) × IsConsistentAt (spot_after limits runs begun) p)
 
 -- ---- laws
 
 -- Wherever a message within the limits may be cut between pieces there is a spot,
--- and the pieces that may stand at it are those with which some message within the limits goes on.
+-- and the pieces that may occur at it are those with which some message within the limits goes on.
 abbrev pub FrontsHaveSpots : Type 0
 FrontsHaveSpots =
     (limits : LimitValues) (ps : List Piece) → AreInRange limits → BeginMessage limits ps

@@ -1,4 +1,4 @@
--- What a header octet says (NDEF 1.0, record layout).
+-- The fields of a header octet (NDEF 1.0, record layout).
 use Rattle.std.specs.Prelude.{ℕ, ◌+◌, if◌then◌else◌}
 use Rattle.ndef_format.specs.HeadReasons.{is_set, width}
 

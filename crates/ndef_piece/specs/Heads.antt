@@ -1,10 +1,10 @@
--- Which octets are the head of a piece that may stand at a spot.
+-- The octets that are the head of a piece that may occur at a spot.
 use Rattle.std.specs.Prelude.{◌≡◌, ℕ, ◌+◌, ◌≤◌, List, ◌∷◌, ◌++◌, length, is_some, ◌↔◌, if◌then◌else◌}
 use Rattle.ndef_format.specs.Records.{HeadFields, octets, code, tnf_of}
 use Rattle.ndef_piece.specs.declared.head.Head.{Head}
 use Rattle.ndef_format.specs.declared.spot.Spot.{Spot}
 use Rattle.ndef_format.specs.HeadReasons.{tnf_number}
-use Rattle.ndef_format.specs.Positions.{CanBeSpelled, MayStand}
+use Rattle.ndef_format.specs.Positions.{CanBeSpelled, MayOccur}
 
 -- NDEF 1.0, TNF: the head that a reader makes of the fields; 7 is read as Unknown
 abbrev pub head : HeadFields → Head
@@ -32,24 +32,24 @@ written_fields h = record {
   id_length = h.id_length;
 }
 
--- the octets begin the octets of these fields, which may stand at the spot
+-- the octets begin the octets of these fields, which may occur at the spot
 pub record BeginsHead (spot : Spot) (xs : List ℕ) (f : HeadFields) : Type 0 where
-  pub stands : MayStand spot f
+  pub stands : MayOccur spot f
   pub rest : List ℕ
   pub spelled : octets f ≡ xs ++ rest
 
--- some head that may stand at the spot begins with these octets
+-- some head that may occur at the spot begins with these octets
 abbrev pub IsViableHead : Spot → List ℕ → Type 0
 IsViableHead spot xs = (f : HeadFields) × BeginsHead spot xs f
 
--- the payload length of some head that may stand at the spot and begins with these octets
+-- the payload length of some head that may occur at the spot and begins with these octets
 abbrev pub IsLength : Spot → List ℕ → ℕ → Type 0
 IsLength spot xs n = (f : HeadFields) × BeginsHead spot xs f × (f.payload_length ≡ n)
 
--- the octets are a head that may stand at the spot, and it is read as h
+-- the octets are a head that may occur at the spot, and it is read as h
 pub record IsWholeHead (spot : Spot) (xs : List ℕ) (h : Head) : Type 0 where
   pub fields : HeadFields
-  pub stands : MayStand spot fields
+  pub stands : MayOccur spot fields
   pub spelled : octets fields ≡ xs
   pub read : head fields ≡ h
 
@@ -60,8 +60,8 @@ IsRange spot xs range = (n : ℕ) → IsLength spot xs n ↔ ((range.0 ≤ n) ×
 -- ---- laws
 
 -- No head's octets begin those of another, and heads with the same octets are the same.
-abbrev pub HeadsAreApart : Type 0
-HeadsAreApart =
+abbrev pub HeadsAreUnambiguous : Type 0
+HeadsAreUnambiguous =
     (f g : HeadFields) (x y : List ℕ) → CanBeSpelled f → CanBeSpelled g → octets f ++ x ≡ octets g
     ++ y
     → (f ≡ g) × (x ≡ y)

@@ -5,9 +5,9 @@ use Rattle.ndef_format.specs.Messages.{Item, run_record, payload_of, all_pieces,
 use Rattle.ndef_format.specs.Limits.{LimitValues, AreInRange, IsWithin}
 use Rattle.ndef_format.specs.declared.profile.Profile.{Profile}
 use Rattle.ndef_format.specs.declared.spot.Spot.{Spot}
-use Rattle.ndef_format.specs.Positions.{Stands, spot_after, AreBefore, NoneLast}
+use Rattle.ndef_format.specs.Positions.{IsConsistentAt, spot_after, AreBefore, NoneLast}
 
--- what is known before a piece, by the pieces before it
+-- the state before a piece, by the pieces before it
 pub record Before : Type 0 where
   -- no piece was before it
   pub first : Bool
@@ -43,7 +43,7 @@ inside records pieces room m =
 abbrev pub start : LimitValues → Before
 start limits = outside limits true false limits.records
 
--- what of it the head of the piece depends on
+-- the part of it on which the head of the piece depends
 abbrev pub spot : Profile → Before → Spot
 spot profile c = record {
   profile = profile;
@@ -65,30 +65,30 @@ record_with (Some m) p =
 abbrev pub ending_record : Before → Piece → List Item
 ending_record c p = if p.chunked then [] else record_with c.begun p ∷ []
 
--- NDEF 1.0, CF and ME: what is known after the piece
+-- NDEF 1.0, CF and ME: the state after the piece
 abbrev pub after : LimitValues → Before → Piece → Before
 after limits c p =
     if p.chunked then inside c.records (c.pieces - 1) (c.room - length p.payload) (record_with c.begun p)
     else outside limits false p.last (c.records - 1)
 
--- NDEF 1.0, messages: these pieces stand in turn, end these records, and the last of them ends the
+-- NDEF 1.0, messages: these pieces occur in turn, end these records, and the last of them ends the
 -- message
 abbrev pub Walk : LimitValues → Before → List Piece → List Item → Type 0
 Walk limits c [] items = (c.over ≡ true) × (items ≡ [])
 Walk limits c (p ∷ ps) items =
-    (c.over ≡ false) × Stands (spot limits.profile c) p × (rest : List Item)
+    (c.over ≡ false) × IsConsistentAt (spot limits.profile c) p × (rest : List Item)
     × (items ≡ ending_record c p ++ rest)
     × Walk limits (after limits c p) ps rest
 
--- NDEF 1.0, messages: these pieces stand in turn, end these records, and then d is known
+-- NDEF 1.0, messages: these pieces occur in turn, end these records, and the state after them is d
 abbrev pub Walked : LimitValues → Before → List Piece → List Item → Before → Type 0
 Walked limits c [] items d = (items ≡ []) × (d ≡ c)
 Walked limits c (p ∷ ps) items d =
-    (c.over ≡ false) × Stands (spot limits.profile c) p × (rest : List Item)
+    (c.over ≡ false) × IsConsistentAt (spot limits.profile c) p × (rest : List Item)
     × (items ≡ ending_record c p ++ rest)
     × Walked limits (after limits c p) ps rest d
 
--- what is known where these are the pieces of the open run, none where no run is open
+-- the state if these are the pieces of the open run, none if no run is open
 abbrev pub standing : LimitValues → (first over : Bool) → (records : ℕ) → List Piece → Before
 standing limits first over records [] = outside limits first over records
 standing limits first over records (p ∷ ps) =
@@ -131,14 +131,14 @@ RunsGoOn = (limits : LimitValues) (records pieces room : ℕ) (m : Item) (ps : L
     × (items ≡ record m { payload = m.payload ++ payload } ∷ rest)
     × Walk limits (inside records pieces room (record m { payload = [] })) ps (record m { payload = payload } ∷ rest))
 
--- What is known after a walk follows from the runs that it has completed, and from the pieces of
+-- The state after a walk follows from the runs that it has completed, and from the pieces of
 -- the one that it is in.
 abbrev pub WalksAreCounted : Type 0
 WalksAreCounted = (limits : LimitValues) (ps : List Piece) (done : List Item) (d : Before)
     → Walked limits (start limits) ps done d
     → IsCounted limits ps done d
 
--- A message that is not over can be ended by one piece, with any payload that has room.
+-- A message that is not over can be ended by one piece, with any payload that fits.
 abbrev pub WalksCanEnd : Type 0
 WalksCanEnd =
     (limits : LimitValues) (c : Before) (payload : List ℕ) → c.over ≡ false → AreOctets payload

@@ -49,7 +49,7 @@ fields_of header kind id payload = record {
   id_length = if is_set 3 header then Some id else None;
 }
 
--- NDEF 1.0, record layout: the bytes begin with a head of `count` octets that may stand at the
+-- NDEF 1.0, record layout: the bytes begin with a head of `count` octets that may occur at the
 -- spot, read as h
 pub record BeginWithHead (spot : Spot) (bytes : List ℕ) (h : Head) (count : ℕ) : Type 0 where
   pub some : 0 < count

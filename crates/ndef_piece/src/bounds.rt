@@ -1,4 +1,4 @@
-//! Which lengths the heads have that go on after some octets.
+//! The lengths of the heads that continue some octets.
 ghost use Rattle.std.specs.Prelude.{◌≡◌, ◌^◌, ◌<◌, ◌≤◌, length, slice_index};
 ghost use Rattle.ndef_piece.specs.Header.{size};
 ghost use Rattle.ndef_piece.specs.Ranges.{range_of};
@@ -10,7 +10,7 @@ use crate::{Head, Spot};
 use ndef_format::header::{CHUNK, END, ID_THERE, is_set, tnf_number, width};
 use ndef_value::Tnf;
 
-/// What the heads (NDEF 1.0, record layout) that go on after some octets have in common, and the least
+/// The common properties of the heads (NDEF 1.0, record layout) that continue some octets, and the least
 /// and the greatest of their lengths, in octets. Each three lengths within these ranges are those of one
 /// such head.
 #[derive(Clone, Copy, Debug, PartialEq, Eq, Hash)]

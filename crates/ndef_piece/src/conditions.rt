@@ -1,4 +1,4 @@
-//! Why an octet is refused in the head of a piece: the lowest reason that holds of it.
+//! The reason why an octet is refused in the head of a piece: the lowest reason that holds of it.
 ghost use Rattle.std.specs.Prelude.{◌≡◌, ◌<◌, ◌≤◌, [], ◌∷◌, length};
 ghost use Rattle.ndef_format.specs.HeadReasons.{width, is_strict, reason_for};
 ghost use Rattle.ndef_format.specs.Positions.{IsOpen};
@@ -18,7 +18,7 @@ fn is_strict(profile: Profile) -> bool
     }
 }
 
-/// Why a header octet is refused.
+/// The reason why a header octet is refused.
 fn header_reason(spot: &Spot, octet: u8) -> Option<Reason>
     ensures { result ≡ reason_for spot.now [] octet }
 {
@@ -51,17 +51,17 @@ fn header_reason(spot: &Spot, octet: u8) -> Option<Reason>
     }
 }
 
-/// Why the octet is refused as the first of a head, if it is.
+/// The reason why the octet is refused as the first of a head, if it is.
 #[tactic(auto, using(crate::proofs::Steps::open_start))]
 pub fn first_reason(spot: &Spot, octet: u8) -> Option<Reason>
     ensures reason { result ≡ reason_for spot.now [] octet }
-    // Some head may stand at any spot.
+    // Some head may occur at any spot.
     ensures open { IsOpen spot.now [] }
 {
     header_reason(spot, octet)
 }
 
-/// Why the octet of TYPE_LENGTH is refused.
+/// The reason why the octet of TYPE_LENGTH is refused.
 fn type_length_reason(spot: &Spot, header: u8, octet: u8) -> Option<Reason>
     ensures { result ≡ reason_for spot.now (header ∷ []) octet }
 {
@@ -77,7 +77,7 @@ fn type_length_reason(spot: &Spot, header: u8, octet: u8) -> Option<Reason>
     }
 }
 
-/// Why an octet of PAYLOAD_LENGTH is refused, after these of it.
+/// The reason why an octet of PAYLOAD_LENGTH is refused, after these of it.
 fn payload_length_reason(
     spot: &Spot,
     header: u8,
@@ -97,7 +97,7 @@ fn payload_length_reason(
     }
 }
 
-/// Why the octet of ID_LENGTH is refused.
+/// The reason why the octet of ID_LENGTH is refused.
 fn id_length_reason(
     spot: &Spot,
     header: u8,
@@ -115,7 +115,7 @@ fn id_length_reason(
     }
 }
 
-/// Why an octet is refused after these of a head.
+/// The reason why an octet is refused after these of a head.
 pub(crate) fn reason(spot: &Spot, front: &[u8], octet: u8) -> Option<Reason>
     ensures { result ≡ reason_for spot.now front.now octet }
 {

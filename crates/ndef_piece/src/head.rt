@@ -11,7 +11,7 @@ use crate::payload_length::{least_and_greatest, length_front};
 use ndef_format::header::{BEGIN, CHUNK, END, ID_THERE, SHORT, is_set, tnf_number, width};
 use ndef_value::Tnf;
 
-/// What the octets of a piece before its TYPE say (NDEF 1.0, record layout).
+/// The fields of a piece before its TYPE (NDEF 1.0, record layout).
 #[derive(Clone, Copy, Debug, PartialEq, Eq, Hash)]
 pub struct Head {
     /// MB: the piece is the first of its message.

@@ -18,19 +18,19 @@ use crate::{Bounds, Head, Spot};
 use ndef_value::Reason;
 use std::marker::Model;
 
-/// What is known after an octet of a head.
+/// The state after an octet of a head.
 #[derive(Clone, Copy, Debug, PartialEq, Eq, Hash)]
 pub enum Step {
     /// It goes on.
     More,
     /// It is whole.
     Head(Head),
-    /// No head that may stand at the spot begins so. The reason is the lowest that holds of the
+    /// No head that may occur at the spot begins with these octets. The reason is the lowest that holds of the
     /// octet.
     Refused(Reason),
 }
 
-/// What these octets of a head are, where they are a front of one.
+/// Returns the state after these octets of a head, if they are a front of one.
 fn step_after(taken: &[u8]) -> Step
     requires { 0 < length taken.now }
     ensures more { length taken.now < size (slice_index taken.now 0) → result ≡ steps.More }
@@ -74,7 +74,7 @@ impl Model for HeadReader {
     ghost Value = { Reading };
 
     ghost use Rattle.ndef_piece.specs.Machine.Inside.{inside_fields, reading, IsConsistent};
-    ghost use Rattle.ndef_piece.specs.Machine.InsideLaws.{fields_are_told};
+    ghost use Rattle.ndef_piece.specs.Machine.InsideLaws.{inside_fields_are_exact};
 
     ghost view = { reading };
 
@@ -82,7 +82,7 @@ impl Model for HeadReader {
 
     ghost inverse = { inside_fields };
 
-    ghost inverse_ok = { fields_are_told };
+    ghost inverse_ok = { inside_fields_are_exact };
 }
 
 impl HeadReader {
@@ -91,7 +91,7 @@ impl HeadReader {
     pub fn new(spot: Spot) -> Self
         requires { spot.first ≡ true → spot.inside ≡ false }
         ensures empty { result ≡ record { spot = spot; octets = []; answer = steps.More } }
-        // Some head may stand at any spot.
+        // Some head may occur at any spot.
         ensures open { IsOpen spot [] }
     {
         HeadReader {
@@ -109,8 +109,8 @@ impl HeadReader {
         self.count == 0
     }
 
-    /// The head at the front of the bytes, and its number of octets, if no octet has come yet and the bytes show at
-    /// once that it is whole and may stand at the spot.
+    /// Returns the head at the front of the bytes, and its number of octets, if no octet has come yet and the bytes
+    /// show at once that it is whole and may occur at the spot.
     pub fn whole_head(&self, bytes: &[u8]) -> Option<(Head, usize)>
         ensures fresh { IfSome result (λ r. self.now.octets ≡ []) }
         ensures begins { IfSome result (λ r. BeginWithHead self.now.spot bytes.now r.0 r.1) }

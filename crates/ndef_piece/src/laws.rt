@@ -1,5 +1,5 @@
-//! What holds of heads, pieces and messages, whoever reads or writes them.
-ghost use Rattle.ndef_piece.specs.Heads.{HeadsAreApart, HeadsHaveSizes, HeadersTell};
+//! Properties of heads, pieces and messages, for every reader and writer.
+ghost use Rattle.ndef_piece.specs.Heads.{HeadsAreUnambiguous, HeadsHaveSizes, HeadersTell};
 ghost use Rattle.ndef_piece.specs.Conditions.{ConditionsAreInOrder};
 ghost use Rattle.ndef_piece.specs.Machine.Reading.{ConditionsAreExact, OneAnswer};
 ghost use Rattle.ndef_piece.specs.Bounds.{BoundsOfFronts, BoundsOfHeads};
@@ -11,8 +11,8 @@ ghost use Rattle.ndef_piece.specs.Rest.{RestsSpell, RestsEnd, RestsPastHeads, Re
 
 /// No head's octets begin those of another. The octets of a head, 3 to 7, determine it, and the
 /// first gives its type name format. So only one answer to an octet is right.
-pub fn heads_are_apart()
-    ensures apart { HeadsAreApart }
+pub fn heads_are_unambiguous()
+    ensures apart { HeadsAreUnambiguous }
     ensures sizes { HeadsHaveSizes }
     ensures header { HeadersTell }
     ensures one_answer { OneAnswer }
@@ -31,8 +31,8 @@ pub fn lengths_are_independent()
     ensures heads { BoundsOfHeads }
 {}
 
-/// A piece may stand at a spot exactly where its head may. Each head that may stand is that of each
-/// piece with its lengths. Where the bytes of a piece that may stand go on after an open front with
+/// A piece may occur at a spot exactly if its head may. Each head that may occur is that of each
+/// piece with its lengths. If the bytes of a piece that may occur continue an open front with
 /// some octet, that octet is not refused, and a head that is whole then is the head of the piece.
 pub fn heads_are_of_pieces()
     ensures to_heads { HeadsOfPieces }
@@ -42,20 +42,20 @@ pub fn heads_are_of_pieces()
 {}
 
 /// The octets of a message up to one determine its field, the whole runs before it and the pieces
-/// of an open one. A piece that stands after them continues the open run, or ends it.
-pub fn fields_are_told()
+/// of an open one. A piece that follows them continues the open run, or ends it.
+pub fn next_fields_are_exact()
     ensures one { OneField }
     ensures on { PiecesGoOn }
 {}
 
 /// Wherever a message within the limits is cut between pieces there is a spot, and the pieces that
-/// may stand at it are those with which such a message goes on. It follows from the pieces before.
+/// may occur at it are those with which such a message continues. It follows from the pieces before.
 pub fn fronts_have_spots()
     ensures { FrontsHaveSpots }
 {}
 
-/// The messages within the limits are those whose pieces stand in turn, each at the spot that the
-/// pieces before it lead to, the last of them ending the message. Such a walk can be cut after any
+/// The messages within the limits are those whose pieces occur in turn, each at the spot after the
+/// pieces before it, the last of them ending the message. Such a walk can be cut after any
 /// piece.
 pub fn messages_are_walks()
     ensures messages { WalksAreMessages }
@@ -66,7 +66,7 @@ pub fn messages_are_walks()
 {}
 
 /// The bytes that complete a message, from its start to its end: past a head they are the body of a
-/// piece and what completes the message after it, and within a head they go on as some head does.
+/// piece and the octets that complete the message after it, and within a head they go on as some head does.
 pub fn messages_are_read_by_heads()
     ensures spelling { RestsSpell }
     ensures end { RestsEnd }

@@ -1,16 +1,16 @@
 //! The heads of NDEF pieces (NFC Forum, NDEF 1.0): read octet by octet, refused at the first octet that no
 //! valid head can contain there, and written; and whole pieces at the front of a slice. Nothing here allocates memory.
 //!
-//! Where to look:
+//! The files:
 //!
 //! - `head_reader.rt`: reads a head. `write.rt`: writes one.
 //! - `conditions.rt`: the conditions of the reasons 1 to 14. ndef_format's `specs/HeadReasons.antt` states them.
-//! - `specs/Heads.antt`: which octets are heads that may stand at a spot. `bounds.rt`: which lengths they have.
+//! - `specs/Heads.antt`: the octets that are heads that may occur at a spot. `bounds.rt`: the lengths of heads.
 //! - `whole.rt`: a whole piece, or a whole head, at the front of a slice. `standing.rt`: whether it may
-//!   stand at a spot.
+//!   occur at a spot.
 //! - `specs/Field.antt`: the field of the next octet follows from those before it. `specs/Machine/`: the
 //!   states of a reader.
-//! - `specs/Walk.antt`, `specs/Rest.antt`: the pieces of a message one after another, and what is known
+//! - `specs/Walk.antt`, `specs/Rest.antt`: the pieces of a message one after another, and the state
 //!   before each.
 #![tactic(auto)]
 
@@ -31,8 +31,8 @@ pub use head::Head;
 pub use head_reader::{HeadReader, Step};
 pub use header::header_tnf;
 pub use laws::{
-    conditions_are_exact, fields_are_told, fronts_have_spots, heads_are_apart, heads_are_of_pieces,
-    lengths_are_independent, messages_are_read_by_heads, messages_are_walks,
+    conditions_are_exact, fronts_have_spots, heads_are_of_pieces, heads_are_unambiguous,
+    lengths_are_independent, messages_are_read_by_heads, messages_are_walks, next_fields_are_exact,
 };
 pub use ndef_format::Spot;
 pub use whole::{WholePiece, whole_piece};

@@ -1,8 +1,8 @@
-//! Whether a piece may stand at a spot, by its header octet and its lengths. Only a true answer is conclusive.
+//! Whether a piece may occur at a spot, by its header octet and its lengths. Only a true answer is conclusive.
 ghost use Rattle.std.specs.Prelude.{◌≡◌, ◌≢◌, ◌≤◌, false, true, IsTrue};
 ghost use Rattle.ndef_format.specs.Records.{HasShape, IsRead, tnf_of};
 ghost use Rattle.ndef_format.specs.HeadReasons.{is_set, tnf_number};
-ghost use Rattle.ndef_format.specs.Positions.{CanBeSpelled, MayStand};
+ghost use Rattle.ndef_format.specs.Positions.{CanBeSpelled, MayOccur};
 ghost use Rattle.ndef_piece.specs.Whole.{fields_of};
 
 use crate::Spot;
@@ -24,7 +24,7 @@ fn has_shape(profile: Profile, tnf: u8, kind: usize, id: usize, payload: usize) 
     }
 }
 
-/// Whether the flags may stand at the spot, and `payload` bytes have room there.
+/// Whether the flags may occur at the spot, and `payload` bytes fit in its payload budget.
 pub(crate) fn suits(spot: &Spot, header: u8, payload: usize) -> bool
     ensures begins { IsTrue result → is_set 7 header ≡ spot.now.first }
     ensures chunked { IsTrue result → is_set 5 header ≡ true
@@ -42,7 +42,7 @@ pub(crate) fn suits(spot: &Spot, header: u8, payload: usize) -> bool
     followed && is_set(BEGIN, header) == spot.first && payload <= spot.room as usize
 }
 
-/// Whether a piece with this header octet and these lengths may stand at the spot and begins a record there.
+/// Whether a piece with this header octet and these lengths may occur at the spot and begins a record there.
 pub(crate) fn opens(spot: &Spot, header: u8, kind: usize, id: usize, payload: usize) -> bool
     ensures outside { IsTrue result → spot.now.inside ≡ false }
     ensures read { IsTrue result → IsRead spot.now.profile (tnf_number header) }
@@ -63,10 +63,10 @@ pub(crate) fn opens(spot: &Spot, header: u8, kind: usize, id: usize, payload: us
         && has_shape(spot.profile, tnf, kind, id, payload)
 }
 
-/// Whether a head with this header octet and these lengths may stand at the spot.
-pub(crate) fn may_stand(spot: &Spot, header: u8, kind: usize, id: usize, payload: usize) -> bool
+/// Whether a head with this header octet and these lengths may occur at the spot.
+pub(crate) fn may_occur(spot: &Spot, header: u8, kind: usize, id: usize, payload: usize) -> bool
     ensures { IsTrue result → CanBeSpelled (fields_of header kind id payload)
-        → MayStand spot.now (fields_of header kind id payload) }
+        → MayOccur spot.now (fields_of header kind id payload) }
 {
     if spot.inside {
         tnf_number(header) == 6

@@ -2,11 +2,11 @@
 ghost use Rattle.std.specs.Prelude.{◌≡◌, ◌^◌, ◌<◌, ◌++◌, false, true, length, IfNone, IfSome, IsTrue, Some, None, [], if◌then◌else◌};
 ghost use Rattle.ndef_format.specs.Records.{FitsForm, id_length_octets, payload_length_octets, tnf_of};
 ghost use Rattle.ndef_format.specs.HeadReasons.{is_set, tnf_number, width};
-ghost use Rattle.ndef_format.specs.Positions.{Stands};
+ghost use Rattle.ndef_format.specs.Positions.{IsConsistentAt};
 ghost use Rattle.ndef_piece.specs.Whole.{BeginWithHead, BeginWithPiece, IsSplit, shown};
 
 use crate::header::header_tnf;
-use crate::standing::{may_stand, opens, suits};
+use crate::standing::{may_occur, opens, suits};
 use crate::{Head, Spot};
 use ndef_format::header::{BEGIN, CHUNK, END, ID_THERE, SHORT, is_set, tnf_number};
 use ndef_value::Tnf;
@@ -27,7 +27,7 @@ pub struct WholePiece<'a> {
     pub rest: &'a [u8],
 }
 
-/// PAYLOAD_LENGTH at the front of the bytes, and what follows it.
+/// PAYLOAD_LENGTH at the front of the bytes, and the rest after it.
 fn payload_length_at(header: u8, bytes: &[u8]) -> Option<(u32, &[u8])>
     ensures small { IfSome result (λ r. r.0 < 2 ^ 32) }
     ensures form { IfSome result (λ r. FitsForm (is_set 4 header) r.0) }
@@ -47,7 +47,7 @@ fn payload_length_at(header: u8, bytes: &[u8]) -> Option<(u32, &[u8])>
     }
 }
 
-/// ID_LENGTH at the front of the bytes, 0 where IL is clear, and what follows it.
+/// ID_LENGTH at the front of the bytes, 0 where IL is clear, and the rest after it.
 fn id_length_at(header: u8, bytes: &[u8]) -> Option<(u8, &[u8])>
     ensures joined { IfSome result (λ r. bytes.now
         ≡ id_length_octets (if is_set 3 header then Some r.0 else None) ++ r.1.now) }
@@ -63,7 +63,7 @@ fn id_length_at(header: u8, bytes: &[u8]) -> Option<(u8, &[u8])>
     Some((*length, rest))
 }
 
-/// The head at the front of the bytes, and its number of octets, where it is whole and may stand at the spot.
+/// The head at the front of the bytes, and its number of octets, if it is whole and may occur at the spot.
 pub(crate) fn head_at(spot: &Spot, bytes: &[u8]) -> Option<(Head, usize)>
     ensures { IfSome result (λ r. BeginWithHead spot.now bytes.now r.0 r.1) }
 {
@@ -72,7 +72,7 @@ pub(crate) fn head_at(spot: &Spot, bytes: &[u8]) -> Option<(Head, usize)>
     };
     let (payload_length, rest) = payload_length_at(*header, rest)?;
     let (id_length, rest) = id_length_at(*header, rest)?;
-    if !may_stand(
+    if !may_occur(
         spot,
         *header,
         usize::from(*kind_length),
@@ -94,7 +94,7 @@ pub(crate) fn head_at(spot: &Spot, bytes: &[u8]) -> Option<(Head, usize)>
     Some((head, bytes.len() - rest.len()))
 }
 
-/// The first `count` bytes, and what follows them.
+/// The first `count` bytes, and the rest after them.
 fn cut(bytes: &[u8], count: usize) -> Option<(&[u8], &[u8])>
     ensures length { IfSome result (λ r. length r.0.now ≡ count) }
     ensures joined { IfSome result (λ r. bytes.now ≡ r.0.now ++ r.1.now) }
@@ -106,8 +106,8 @@ fn cut(bytes: &[u8], count: usize) -> Option<(&[u8], &[u8])>
     Some(bytes.split_at(count))
 }
 
-/// The piece at the front of the bytes, or none where they don't hold a whole one (NDEF 1.0, record
-/// layout). Any header octet will do: whether the piece may stand in a message isn't asked.
+/// The piece at the front of the bytes, or None if they don't hold a whole one (NDEF 1.0, record
+/// layout). Any header octet will do: the call doesn't check whether the piece may occur in a message.
 pub fn whole_piece(bytes: &[u8]) -> Option<WholePiece<'_>>
     ensures piece { IfSome result (λ w. IsSplit (shown w) (is_set 4 w.header) w.rest.now bytes.now) }
     ensures no_id { IfSome result (λ w. is_set 3 w.header ≡ false → w.id.now ≡ []) }
@@ -151,11 +151,11 @@ impl WholePiece<'_> {
         is_set(END, self.header)
     }
 
-    /// Whether it is clear at once that it may stand at the spot and continues the run there (NDEF
+    /// Whether it is clear at once that it may occur at the spot and continues the run there (NDEF
     /// 1.0, chunked payloads).
     pub fn goes_on_at(&self, spot: &Spot) -> bool
         requires { spot.now.inside ≡ true }
-        ensures { IsTrue result → Stands spot.now (shown self.now) }
+        ensures { IsTrue result → IsConsistentAt spot.now (shown self.now) }
     {
         tnf_number(self.header) == 6
             && self.kind.is_empty()
@@ -163,9 +163,9 @@ impl WholePiece<'_> {
             && suits(spot, self.header, self.payload.len())
     }
 
-    /// Whether it is clear at once that it may stand at the spot and begins a record there.
+    /// Whether it is clear at once that it may occur at the spot and begins a record there.
     pub fn opens_at(&self, spot: &Spot) -> bool
-        ensures stands { IsTrue result → Stands spot.now (shown self.now) }
+        ensures stands { IsTrue result → IsConsistentAt spot.now (shown self.now) }
         ensures outside { IsTrue result → spot.now.inside ≡ false }
     {
         opens(
@@ -177,9 +177,9 @@ impl WholePiece<'_> {
         )
     }
 
-    /// Whether it is clear at once that it may stand at the spot and is a record in one piece.
+    /// Whether it is clear at once that it may occur at the spot and is a record in one piece.
     pub fn is_record_at(&self, spot: &Spot) -> bool
-        ensures stands { IsTrue result → Stands spot.now (shown self.now) }
+        ensures stands { IsTrue result → IsConsistentAt spot.now (shown self.now) }
         ensures one { IsTrue result → is_set 5 self.now.header ≡ false }
         ensures outside { IsTrue result → spot.now.inside ≡ false }
     {

@@ -2,7 +2,7 @@
 ghost use Rattle.std.specs.Prelude.{◌≡◌, ◌≤◌, ◌++◌, length, drop};
 ghost use Rattle.ndef_format.specs.Records.{octets, FitsForm};
 ghost use Rattle.ndef_piece.specs.Heads.{written_fields, IsWholeHead};
-ghost use Rattle.ndef_format.specs.Positions.{MayStand};
+ghost use Rattle.ndef_format.specs.Positions.{MayOccur};
 ghost use Rattle.ndef_format.specs.declared.spot.Spot.{Spot};
 
 use crate::Head;
@@ -17,8 +17,8 @@ pub fn write_head(head: &Head, out: &mut [u8; 7]) -> usize
     ensures written { out.new ≡ octets (written_fields head.now) ++ drop result out.old }
     ensures count { result ≡ length (octets (written_fields head.now)) }
     ensures few { (3 ≤ result) × (result ≤ 7) }
-    // Wherever the head may stand, these octets are read as it.
-    ensures read_back { (spot : Spot) → MayStand spot (written_fields head.now)
+    // If the head may occur at a spot, these octets are read as it there.
+    ensures read_back { (spot : Spot) → MayOccur spot (written_fields head.now)
         → IsWholeHead spot (octets (written_fields head.now)) head.now }
 {
     out[0] = header_octet(head);

@@ -8,8 +8,8 @@ use Rattle.hex.proofs.HexLemmas.{decode_of-digits, decode_of-err, decode_of-ok}
 use Rattle.hex.specs.Hex.{decode_of, decode_pairs, is_hex_digit}
 use Rattle.hex.specs.declared.error.FromHexError.{FromHexError}
 use Rattle.hex.specs.declared.error.FromHexError.TheVariants.{InvalidHexCharacter, OddLength}
-use Rattle.ndef_program.specs.Endings.{fault_of}
-use Rattle.ndef_program.specs.declared.ending.HexFault.TheVariants.{BadDigit}
+use Rattle.ndef_cli.specs.Outcomes.{fault_of}
+use Rattle.ndef_cli.specs.declared.outcome.HexFault.TheVariants.{BadDigit}
 
 -- one of some digits is a digit
 digit_at : (s : List ℕ) (j k : ℕ) → j < k → k < length s → AllPass is_hex_digit (take k s) → is_hex_digit (slice_index s j) ≡ true

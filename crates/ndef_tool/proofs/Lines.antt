@@ -12,7 +12,7 @@ use Rattle.ndef_types.specs.Posters.{StandForTexts}
 use Rattle.ndef_types.specs.Values.{TextValue}
 use Rattle.ndef_types.specs.declared.link.Link.{Link}
 use Rattle.ndef_tool.specs.Linking.{link_line, link_lines}
-use Rattle.ndef_program.specs.Quoting.{Text}
+use Rattle.ndef_cli.specs.Quoting.{Text}
 use Rattle.ndef_tool.specs.Showing.{AreRecordLines, IsRecordLine}
 
 -- what follows from a success
@@ -28,17 +28,17 @@ two_parts x a word part n m e f = f ∙ ap (λ t. t ++ (word ++ part)) e ∙ sim
 pub three_parts : (x a second b third c n m k : Text) → n ≡ x ++ a → m ≡ n ++ (second ++ b) → k ≡ m ++ (third ++ c) → k ≡ x ++ (a ++ second ++ b ++ third ++ c)
 three_parts x a second b third c n m k e f g = g ∙ ap (λ t. t ++ (third ++ c)) (two_parts x a second b n m e f) ∙ simp append_assoc
 
-records_behind : (profile : Profile) (number : ℕ) (items : List Item) (i : Item) (done line : Text) → AreRecordLines profile number items done
+records_after : (profile : Profile) (number : ℕ) (items : List Item) (i : Item) (done line : Text) → AreRecordLines profile number items done
     → IsRecordLine profile (number + length items) i line → AreRecordLines profile number (items ++ i ∷ []) (done ++ line)
-records_behind profile number [] i done line are is =
+records_after profile number [] i done line are is =
     let n : number + 0 ≡ number = omega arith in
     (line, [], rw n at is, refl, ap (λ t. t ++ line) are ∙ sym (append-nil line))
-records_behind profile number (j ∷ items) i done line are is =
+records_after profile number (j ∷ items) i done line are is =
     let n : number + length (j ∷ items) ≡ number + 1 + length items = omega arith in (
       are.0,
       are.1 ++ line,
       are.2,
-      records_behind profile (number + 1) items i are.1 line are.3 (rw n at is),
+      records_after profile (number + 1) items i are.1 line are.3 (rw n at is),
       ap (λ t. t ++ line) are.4 ∙ append_assoc are.0 are.1 line,
     )
 
@@ -50,22 +50,22 @@ pub records_on : (profile : Profile) (items : List Item) (n : ℕ) (i : Item) (d
     → AreRecordLines profile 1 (take n items) done → IsRecordLine profile (n + 1) i line → AreRecordLines profile 1 (take (n + 1) items) (done ++ line)
 records_on profile items n i done line l e are is =
     let number : 1 + length (take n items) ≡ n + 1 = omega (arith, length-take n items) in
-    rw (take_grows items n i l e) (records_behind profile 1 (take n items) i done line are (rw number is))
+    rw (take_grows items n i l e) (records_after profile 1 (take n items) i done line are (rw number is))
 
-links_behind : (number : ℕ) (links : List Link) (link : Link) → link_lines number (links ++ link ∷ []) ≡ link_lines number links ++ link_line (number + length links) link
-links_behind number [] link =
+links_after : (number : ℕ) (links : List Link) (link : Link) → link_lines number (links ++ link ∷ []) ≡ link_lines number links ++ link_line (number + length links) link
+links_after number [] link =
     let n : number + 0 ≡ number = omega arith in
     rw n (append-nil (link_line number link))
-links_behind number (l ∷ links) link =
+links_after number (l ∷ links) link =
     let n : number + length (l ∷ links) ≡ number + 1 + length links = omega arith in
-    rw n (ap (λ t. link_line number l ++ t) (links_behind (number + 1) links link) ∙ sym (append_assoc (link_line number l) (link_lines (number + 1) links) (link_line (number + 1 + length links) link)))
+    rw n (ap (λ t. link_line number l ++ t) (links_after (number + 1) links link) ∙ sym (append_assoc (link_line number l) (link_lines (number + 1) links) (link_line (number + 1 + length links) link)))
 
 -- one link more
 pub links_on : (links : List Link) (n : ℕ) (link : Link) → n < length links → slice_get links n ≡ Some link
     → link_lines 1 (take (n + 1) links) ≡ link_lines 1 (take n links) ++ link_line (n + 1) link
 links_on links n link l e =
     let number : 1 + length (take n links) ≡ n + 1 = omega (arith, length-take n links) in
-    ap (link_lines 1) (take_grows links n link l e) ∙ links_behind 1 (take n links) link ∙ ap (λ k. link_lines 1 (take n links) ++ link_line k link) number
+    ap (link_lines 1) (take_grows links n link l e) ∙ links_after 1 (take n links) link ∙ ap (λ k. link_lines 1 (take n links) ++ link_line k link) number
 
 alternatives_on : (items : List Item) (n : ℕ) (i : Item) → n < length items → slice_get items n ≡ Some i
     → alternatives (take (n + 1) items) ≡ alternatives (take n items) ++ (if is_alternative (kind_of i.tnf i.kind) then i ∷ [] else [])

@@ -1,4 +1,4 @@
--- What is printed of messages is one text.
+-- The output for messages is one text.
 use Rattle.std.proofs.Common.{◌≡◌, ℕ, ◌+◌, ◌<◌, zero, suc, get_or, List, [], ◌∷◌, ◌++◌, length, take, drop, length-append, append-nil, refl, sym, ap, ap₂, ◌∙◌, subst, arith, inl, inr, Option, Some, None, Ok}
 use Rattle.std.specs.Prelude.{◌==◌, codes, if◌then◌else◌, option_map, slice_get}
 use Rattle.std.specs.List.{AllByRecursion}
@@ -25,9 +25,9 @@ use Rattle.ndef_types.specs.Values.{AcValue, StandForAuxiliary, StandForNames, S
 use Rattle.ndef_types.specs.declared.link.Link.{Link}
 use Rattle.ndef_types.specs.declared.power.Power.{Power}
 use Rattle.ndef_types.specs.declared.power.Power.TheVariants.{Inactive, Active, Activating, Unknown}
-use Rattle.ndef_tool.specs.Output.{AreBlocks, IsBlock, IsBlockBy, OneOutput, total_bytes, ending_line}
-use Rattle.ndef_program.specs.Quoting.{Text}
-use Rattle.ndef_tool.specs.Showing.{AreRecordLines, IsRecordLine, IsTyped, PrintsValue, TellsPoster, record_front, told_carrier, told_request, told_select, told_text, told_uri}
+use Rattle.ndef_tool.specs.Output.{AreBlocks, IsBlock, IsBlockBy, OneOutput, total_bytes, outcome_line}
+use Rattle.ndef_cli.specs.Quoting.{Text}
+use Rattle.ndef_tool.specs.Showing.{AreRecordLines, IsRecordLine, IsTyped, PrintsValue, TellsPoster, record_front, reported_carrier, reported_request, reported_select, reported_text, reported_uri}
 use Rattle.ndef_tool.specs.declared.choice.Action.{Action}
 use Rattle.ndef_tool.specs.declared.choice.Action.TheVariants.{Show, Check, Encode}
 use Rattle.ndef_tool.specs.declared.choice.Choice.{Choice}
@@ -89,23 +89,23 @@ pub record ValuesAreOne : Type 0 where
   pub selects : (profile : Profile) → OneValue (IsNest tables.Select 65535 profile) (StandsForSelect profile)
   pub carriers : OneValue IsCarrier StandsForCarrier
 
-one_told : ValuesAreOne → (kind : Kind) (profile : Profile) (s : List ℕ) (a b : Text) → IsKindPayload kind 65535 profile s → PrintsValue kind profile s a → PrintsValue kind profile s b → a ≡ b
-one_told one kinds.Text profile s a b h (v, p, e) (w, q, d) = e ∙ ap told_text (one.texts s v w h p q) ∙ sym d
-one_told one kinds.Uri profile s a b h (v, p, e) (w, q, d) = e ∙ ap told_uri (uri_of_payload s v w p q) ∙ sym d
-one_told one kinds.SmartPoster profile s a b h (v, p, e) (w, q, d) =
+one_reported : ValuesAreOne → (kind : Kind) (profile : Profile) (s : List ℕ) (a b : Text) → IsKindPayload kind 65535 profile s → PrintsValue kind profile s a → PrintsValue kind profile s b → a ≡ b
+one_reported one kinds.Text profile s a b h (v, p, e) (w, q, d) = e ∙ ap reported_text (one.texts s v w h p q) ∙ sym d
+one_reported one kinds.Uri profile s a b h (v, p, e) (w, q, d) = e ∙ ap reported_uri (uri_of_payload s v w p q) ∙ sym d
+one_reported one kinds.SmartPoster profile s a b h (v, p, e) (w, q, d) =
     one_poster w a b (subst (λ items. TellsPoster items a) (one.posters profile s v w h p q) e) d
-one_told one kinds.Request profile s a b h (v, p, e) (w, q, d) = e ∙ ap told_request (one.requests profile s v w h p q) ∙ sym d
-one_told one kinds.Select profile s a b h (v, p, e) (w, q, d) = e ∙ ap told_select (one.selects profile s v w h p q) ∙ sym d
-one_told one kinds.Carrier profile s a b h (v, p, e) (w, q, d) = e ∙ ap told_carrier (one.carriers s v w h p q) ∙ sym d
-one_told one kinds.Other profile s a b h e d = e ∙ sym d
-one_told one _ profile s a b h e d = e ∙ sym d
+one_reported one kinds.Request profile s a b h (v, p, e) (w, q, d) = e ∙ ap reported_request (one.requests profile s v w h p q) ∙ sym d
+one_reported one kinds.Select profile s a b h (v, p, e) (w, q, d) = e ∙ ap reported_select (one.selects profile s v w h p q) ∙ sym d
+one_reported one kinds.Carrier profile s a b h (v, p, e) (w, q, d) = e ∙ ap reported_carrier (one.carriers s v w h p q) ∙ sym d
+one_reported one kinds.Other profile s a b h e d = e ∙ sym d
+one_reported one _ profile s a b h e d = e ∙ sym d
 
 -- ---- records
 
 one_line : ValuesAreOne → (profile : Profile) (number : ℕ) (i : Item) (a b : Text) → IsTyped profile i → IsRecordLine profile number i a → IsRecordLine profile number i b → a ≡ b
 one_line one profile number i a b h (s, p, e) (t, q, d) =
-    let told = one_told one (kind_of i.tnf i.kind) profile i.payload s t h p q in
-    e ∙ ap (λ text. record_front number i ++ text ++ codes "\n") told ∙ sym d
+    let reported = one_reported one (kind_of i.tnf i.kind) profile i.payload s t h p q in
+    e ∙ ap (λ text. record_front number i ++ text ++ codes "\n") reported ∙ sym d
 
 one_records : ValuesAreOne → (profile : Profile) (number : ℕ) (items : List Item) (a b : Text) → AllByRecursion (IsTyped profile) items
     → AreRecordLines profile number items a → AreRecordLines profile number items b → a ≡ b
@@ -225,5 +225,5 @@ one_run once one choice number at (r ∷ reads) a b typed (l, s, hl, hs, e) (m, 
     e ∙ ap₂ (λ (x y : Text). x ++ y) block rest ∙ sym d
 
 pub one_output : OneMeaning → ValuesAreOne → OneOutput
-one_output once one choice reads ending a b typed (l, hl, e) (m, hm, d) =
-    e ∙ ap (λ t. t ++ ending_line choice.action (total_bytes reads) ending) (one_run once one choice 1 0 reads l m typed hl hm) ∙ sym d
+one_output once one choice reads outcome a b typed (l, hl, e) (m, hm, d) =
+    e ∙ ap (λ t. t ++ outcome_line choice.action (total_bytes reads) outcome) (one_run once one choice 1 0 reads l m typed hl hm) ∙ sym d

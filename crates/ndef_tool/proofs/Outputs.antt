@@ -1,4 +1,4 @@
--- What is printed, and what of it goes out.
+-- The output, and the part of it that goes out.
 use Rattle.std.proofs.Common.{◌≡◌, ◌+◌, ◌-◌, ℕ, Bool, true, false, List, [], ◌∷◌, ◌++◌, length, take, Option, Result, Ok, Err, refl, sym, ap, ◌∙◌, subst, arith, append-nil, append_assoc}
 use Rattle.std.proofs.lemmas.Bool.{false≢true}
 use Rattle.std.proofs.Math.Seq.{take-append-add, take-nil}
@@ -7,20 +7,20 @@ use Rattle.std.proofs.KnownBytes.{Appends-nil, Appends-trans}
 use Rattle.ndef_message.specs.Sending.{Sent, MarksOf}
 use Rattle.ndef_message.specs.declared.message_reading.Read.{Read}
 use Rattle.ndef_message.specs.declared.sending.WriteFault.{WriteFault}
-use Rattle.ndef_program.specs.Endings.{status_of}
-use Rattle.ndef_tool.specs.Output.{AreBlocks, IsBlock, total_bytes, ending_line}
-use Rattle.ndef_program.specs.Quoting.{Text}
-use Rattle.ndef_program.specs.Statuses.{status_after}
-use Rattle.ndef_program.specs.Statuses.{EndsCommand}
-use Rattle.ndef_program.specs.Outputs.{GoesOut}
+use Rattle.ndef_cli.specs.Outcomes.{status_of}
+use Rattle.ndef_tool.specs.Output.{AreBlocks, IsBlock, total_bytes, outcome_line}
+use Rattle.ndef_cli.specs.Quoting.{Text}
+use Rattle.ndef_cli.specs.Statuses.{status_after}
+use Rattle.ndef_cli.specs.Statuses.{EndsCommand}
+use Rattle.ndef_cli.specs.Outputs.{GoesOut}
 use Rattle.ndef_tool.specs.Sessions.{is_writing}
 use Rattle.ndef_tool.specs.declared.choice.Action.{Action}
 use Rattle.ndef_tool.specs.declared.choice.Action.TheVariants.{Show, Check, Encode}
 use Rattle.ndef_tool.specs.declared.choice.Choice.{Choice}
-use Rattle.ndef_program.specs.declared.ending.Ending.{Ending}
-use Rattle.ndef_program.specs.declared.ending.Ending.TheVariants.{Clean, Refused, Hex, Reading, Writing, Memory, TooMany, TooLong}
-use Rattle.ndef_program.specs.declared.status.Status.{Status}
-use Rattle.ndef_program.specs.declared.status.Status.TheVariants as status
+use Rattle.ndef_cli.specs.declared.outcome.Outcome.{Outcome}
+use Rattle.ndef_cli.specs.declared.outcome.Outcome.TheVariants.{Clean, Refused, Hex, Reading, Writing, Memory, TooMany, TooLong}
+use Rattle.ndef_cli.specs.declared.status.Status.{Status}
+use Rattle.ndef_cli.specs.declared.status.Status.TheVariants as status
 
 -- ---- one message more
 
@@ -47,11 +47,11 @@ blocks_more choice number at (r ∷ rs) read done block are is =
 -- ---- what goes out
 
 -- a text after one that went out
-pub goes_behind : (a b c : Option (List ℕ)) (old new : Bool) (done text : Text) (r : Result ℕ WriteFault) → old ≡ false → Appends a b done
+pub goes_after : (a b c : Option (List ℕ)) (old new : Bool) (done text : Text) (r : Result ℕ WriteFault) → old ≡ false → Appends a b done
     → Sent 0 b c text r → MarksOf old new text r → GoesOut a c new (done ++ text)
-goes_behind a b c old new done text (Ok n) clear d s m =
+goes_after a b c old new done text (Ok n) clear d s m =
     subst (λ (failed : Bool). GoesOut a c failed (done ++ text)) (sym (m.0 ∙ clear)) (Appends-trans a b c done text d s.0)
-goes_behind a b c old new done text (Err f) clear d s m =
+goes_after a b c old new done text (Err f) clear d s m =
     let front : take (length done + (f.written - 0)) (done ++ text) ≡ done ++ take (f.written - 0) text = take-append-add done text (f.written - 0) in
     subst (λ (failed : Bool). GoesOut a c failed (done ++ text)) (sym m)
     (length done + (f.written - 0), subst (Appends a c) (sym front) (Appends-trans a b c done _ d s.0))
@@ -79,9 +79,9 @@ goes_no_further a b c new done r d s m =
         subst (Appends a c) (append-nil (take d.0 done)) (Appends-trans a b c (take d.0 done) [] d.1 (subst (Appends b c) (take-nil (f.written - 0)) s.0))
 
 -- the line of an ending after the blocks
-pub goes_to_end : (a b c : Option (List ℕ)) (middle new : Bool) (done : Text) (action : Action) (base : ℕ) (ending : Ending) (r : Result ℕ WriteFault) → middle ≡ is_writing ending
-    → GoesOut a b middle done → Sent 0 b c (ending_line action base ending) r → MarksOf middle new (ending_line action base ending) r
-    → GoesOut a c new (done ++ ending_line action base ending)
+pub goes_to_end : (a b c : Option (List ℕ)) (middle new : Bool) (done : Text) (action : Action) (base : ℕ) (outcome : Outcome) (r : Result ℕ WriteFault) → middle ≡ is_writing outcome
+    → GoesOut a b middle done → Sent 0 b c (outcome_line action base outcome) r → MarksOf middle new (outcome_line action base outcome) r
+    → GoesOut a c new (done ++ outcome_line action base outcome)
 goes_to_end a b c middle new done Show base Writing r is d s m =
     goes_no_further a b c new done r (subst (λ (failed : Bool). GoesOut a b failed done) is d) s (subst (λ (failed : Bool). MarksOf failed new [] r) is m)
 goes_to_end a b c middle new done Check base Writing r is d s m =
@@ -89,19 +89,19 @@ goes_to_end a b c middle new done Check base Writing r is d s m =
 goes_to_end a b c middle new done (Encode form size) base Writing r is d s m =
     goes_no_further a b c new done r (subst (λ (failed : Bool). GoesOut a b failed done) is d) s (subst (λ (failed : Bool). MarksOf failed new [] r) is m)
 goes_to_end a b c middle new done action base Clean r is d s m =
-    goes_behind a b c middle new done _ r is (subst (λ (failed : Bool). GoesOut a b failed done) is d) s m
+    goes_after a b c middle new done _ r is (subst (λ (failed : Bool). GoesOut a b failed done) is d) s m
 goes_to_end a b c middle new done action base (Refused x) r is d s m =
-    goes_behind a b c middle new done _ r is (subst (λ (failed : Bool). GoesOut a b failed done) is d) s m
+    goes_after a b c middle new done _ r is (subst (λ (failed : Bool). GoesOut a b failed done) is d) s m
 goes_to_end a b c middle new done action base (Hex x) r is d s m =
-    goes_behind a b c middle new done _ r is (subst (λ (failed : Bool). GoesOut a b failed done) is d) s m
+    goes_after a b c middle new done _ r is (subst (λ (failed : Bool). GoesOut a b failed done) is d) s m
 goes_to_end a b c middle new done action base TooLong r is d s m =
-    goes_behind a b c middle new done _ r is (subst (λ (failed : Bool). GoesOut a b failed done) is d) s m
+    goes_after a b c middle new done _ r is (subst (λ (failed : Bool). GoesOut a b failed done) is d) s m
 goes_to_end a b c middle new done action base Reading r is d s m =
-    goes_behind a b c middle new done _ r is (subst (λ (failed : Bool). GoesOut a b failed done) is d) s m
+    goes_after a b c middle new done _ r is (subst (λ (failed : Bool). GoesOut a b failed done) is d) s m
 goes_to_end a b c middle new done action base Memory r is d s m =
-    goes_behind a b c middle new done _ r is (subst (λ (failed : Bool). GoesOut a b failed done) is d) s m
+    goes_after a b c middle new done _ r is (subst (λ (failed : Bool). GoesOut a b failed done) is d) s m
 goes_to_end a b c middle new done action base TooMany r is d s m =
-    goes_behind a b c middle new done _ r is (subst (λ (failed : Bool). GoesOut a b failed done) is d) s m
+    goes_after a b c middle new done _ r is (subst (λ (failed : Bool). GoesOut a b failed done) is d) s m
 
 -- ---- the status
 
@@ -109,14 +109,14 @@ pub usage_status : (old new : Bool) (text : Text) (r : Result ℕ WriteFault) (s
 usage_status old new text (Ok n) st result clear m e = e ∙ ap (λ (failed : Bool). status_after failed st) (sym (m.0 ∙ clear))
 usage_status old new text (Err f) st result clear m e = e ∙ ap (λ (failed : Bool). status_after failed st) (sym m)
 
-pub ending_status : (middle new : Bool) (text : Text) (ending : Ending) (r : Result ℕ WriteFault) (result : Status) → middle ≡ is_writing ending → MarksOf middle new text r
-    → EndsCommand r (status_of ending) result → result ≡ status_after new (status_of ending)
-ending_status middle new text Writing (Ok n) result is m e = e ∙ ap (λ (failed : Bool). status_after failed status.Fault) (sym (m.0 ∙ is))
-ending_status middle new text Writing (Err f) result is m e = e ∙ ap (λ (failed : Bool). status_after failed status.Fault) (sym m)
-ending_status middle new text Clean r result is m e = usage_status middle new text r _ result is m e
-ending_status middle new text (Refused x) r result is m e = usage_status middle new text r _ result is m e
-ending_status middle new text (Hex x) r result is m e = usage_status middle new text r _ result is m e
-ending_status middle new text TooLong r result is m e = usage_status middle new text r _ result is m e
-ending_status middle new text Reading r result is m e = usage_status middle new text r _ result is m e
-ending_status middle new text Memory r result is m e = usage_status middle new text r _ result is m e
-ending_status middle new text TooMany r result is m e = usage_status middle new text r _ result is m e
+pub outcome_status : (middle new : Bool) (text : Text) (outcome : Outcome) (r : Result ℕ WriteFault) (result : Status) → middle ≡ is_writing outcome → MarksOf middle new text r
+    → EndsCommand r (status_of outcome) result → result ≡ status_after new (status_of outcome)
+outcome_status middle new text Writing (Ok n) result is m e = e ∙ ap (λ (failed : Bool). status_after failed status.Fault) (sym (m.0 ∙ is))
+outcome_status middle new text Writing (Err f) result is m e = e ∙ ap (λ (failed : Bool). status_after failed status.Fault) (sym m)
+outcome_status middle new text Clean r result is m e = usage_status middle new text r _ result is m e
+outcome_status middle new text (Refused x) r result is m e = usage_status middle new text r _ result is m e
+outcome_status middle new text (Hex x) r result is m e = usage_status middle new text r _ result is m e
+outcome_status middle new text TooLong r result is m e = usage_status middle new text r _ result is m e
+outcome_status middle new text Reading r result is m e = usage_status middle new text r _ result is m e
+outcome_status middle new text Memory r result is m e = usage_status middle new text r _ result is m e
+outcome_status middle new text TooMany r result is m e = usage_status middle new text r _ result is m e

@@ -29,8 +29,8 @@ use Rattle.ndef_tool.specs.Output.{total_bytes}
 use Rattle.ndef_tool.specs.Rules.{Rules, rules_of}
 use Rattle.ndef_tool.specs.Sessions.{AreInTurn, IsNext, IsSession, Stops, TakesAfter, TakesNext, ViewsNext}
 use Rattle.ndef_tool.specs.declared.choice.Choice.{Choice}
-use Rattle.ndef_program.specs.declared.ending.Ending.{Ending}
-use Rattle.ndef_program.specs.declared.ending.Ending.TheVariants.{Clean, Refused, Hex, Reading, Writing, Memory, TooMany, TooLong}
+use Rattle.ndef_cli.specs.declared.outcome.Outcome.{Outcome}
+use Rattle.ndef_cli.specs.declared.outcome.Outcome.TheVariants.{Clean, Refused, Hex, Reading, Writing, Memory, TooMany, TooLong}
 
 -- a look ahead changes nothing of what is taken
 consumes_kept : (a b c : Option (List ℕ)) (bytes : List ℕ) → Keeps a b → Consumes b c bytes → Consumes a c bytes
@@ -80,8 +80,8 @@ if_after P rules (Some xs) b reads at f e h =
     subst (λ n. P (drop n xs)) (sym e) (subst (λ x. IfSome x P) (left_after rules xs b reads f) h)
 
 -- what is taken after some messages is taken of the bytes after them
-pub takes_after : (rules : Rules) (a b : Option (List ℕ)) (reads : List Read) (at n : ℕ) (ending : Ending) → AreInTurn rules a b reads → at ≡ total_bytes reads
-    → TakesAfter rules b ending n → TakesAfter rules (option_map (drop at) a) ending n
+pub takes_after : (rules : Rules) (a b : Option (List ℕ)) (reads : List Read) (at n : ℕ) (outcome : Outcome) → AreInTurn rules a b reads → at ≡ total_bytes reads
+    → TakesAfter rules b outcome n → TakesAfter rules (option_map (drop at) a) outcome n
 takes_after rules a b reads at n Clean f e h = h
 takes_after rules a b reads at n (Refused r) f e h = h
 takes_after rules a b reads at n (Hex x) f e h = h
@@ -146,7 +146,7 @@ checked_read set holds limits a b checked h =
     (record { message = h.0; taken = checked.taken }, refl, h.2, h.1)
 
 -- of a message for whose block memory ran out
-pub memory_taken : {X : Type 0} (taken_of : X → ℕ) (rules : Rules) (coming left : Option (List ℕ)) (before after : ℕ) (r : Result X Ending) (read : Read) → IsErrAnd r (λ ending. ending ≡ Memory)
+pub memory_taken : {X : Type 0} (taken_of : X → ℕ) (rules : Rules) (coming left : Option (List ℕ)) (before after : ℕ) (r : Result X Outcome) (read : Read) → IsErrAnd r (λ outcome. outcome ≡ Memory)
     → ReadsFrom rules.payloads rules.reasons rules.limits coming left (Ok read) → read.taken ≤ greatest_length rules.limits → Counts before after read.taken → TakesNext taken_of rules coming before after r
 memory_taken taken_of rules coming left before after (Ok x) read h d few counts = absurd h
 memory_taken taken_of rules coming left before after (Err e) read h d few counts =
@@ -161,7 +161,7 @@ viewed_read set holds limits input rest v h e =
     (take v.taken input, split, sym (length-take-le v.taken input h.0), h.1.0)
 
 -- what is viewed is read, unless memory runs out
-pub viewed_unread : (set : Sets) (holds : Conditions) (limits : LimitValues) (count : ℕ) (input rest : List ℕ) (v : Viewed) (r : Result Read Ending) → IsErrAnd r (λ ending. ending ≡ Memory)
+pub viewed_unread : (set : Sets) (holds : Conditions) (limits : LimitValues) (count : ℕ) (input rest : List ℕ) (v : Viewed) (r : Result Read Outcome) → IsErrAnd r (λ outcome. outcome ≡ Memory)
     → ViewsNext (rules_of set holds limits) count input rest (Ok v) → v.taken ≤ greatest_length limits → IsNext (rules_of set holds limits) count (Some input) (Some rest) false r
 viewed_unread set holds limits count input rest v (Ok read) h next few = absurd h
 viewed_unread set holds limits count input rest v (Err e) h next few =
@@ -169,7 +169,7 @@ viewed_unread set holds limits count input rest v (Err e) h next few =
     subst (λ x. Stops (rules_of set holds limits) count (Some input) (Some rest) false false x) (sym h) (next.0, refl, (r.0, r.1, omega (arith, r.2)))
 
 -- .. and all of it is taken
-pub viewed_taken : {X : Type 0} (taken_of : X → ℕ) (set : Sets) (holds : Conditions) (limits : LimitValues) (input rest : List ℕ) (before after : ℕ) (v : Viewed) (r : Result X Ending) → IsErrAnd r (λ ending. ending ≡ Memory)
+pub viewed_taken : {X : Type 0} (taken_of : X → ℕ) (set : Sets) (holds : Conditions) (limits : LimitValues) (input rest : List ℕ) (before after : ℕ) (v : Viewed) (r : Result X Outcome) → IsErrAnd r (λ outcome. outcome ≡ Memory)
     → Views set holds limits input (Ok v) → rest ≡ drop v.taken input → v.taken ≤ greatest_length limits → Counts before after v.taken
     → TakesNext taken_of (rules_of set holds limits) (Some input) before after r
 viewed_taken taken_of set holds limits input rest before after v r h is e few counts =
@@ -177,8 +177,8 @@ viewed_taken taken_of set holds limits input rest before after v r h is e few co
     memory_taken taken_of (rules_of set holds limits) (Some input) (Some rest) before after r (record { message = map run_record v.runs; taken = v.taken }) h d few counts
 
 -- messages end for the same reason where another sink failed
-pub stops_on : (set : Sets) (holds : Conditions) (limits : LimitValues) (count : ℕ) (a b : Option (List ℕ)) (failed old new : Bool) (ending : Ending) → (old ≡ true → new ≡ true)
-    → Stops (rules_of set holds limits) count a b failed old ending → Stops (rules_of set holds limits) count a b failed new ending
+pub stops_on : (set : Sets) (holds : Conditions) (limits : LimitValues) (count : ℕ) (a b : Option (List ℕ)) (failed old new : Bool) (outcome : Outcome) → (old ≡ true → new ≡ true)
+    → Stops (rules_of set holds limits) count a b failed old outcome → Stops (rules_of set holds limits) count a b failed new outcome
 stops_on set holds limits count a b failed old new Clean on h = h
 stops_on set holds limits count a b failed old new (Refused r) on h = h
 stops_on set holds limits count a b failed old new Reading on h = h
@@ -188,19 +188,19 @@ stops_on set holds limits count a b failed old new TooMany on h = h
 stops_on set holds limits count a b failed old new (Hex x) on h = h
 stops_on set holds limits count a b failed old new TooLong on h = h
 
-session_on : (choice : Choice) (a b : Option (List ℕ)) (failed old new : Bool) (reads : List Read) (ending : Ending) → (old ≡ true → new ≡ true)
-    → IsSession choice a b failed old reads ending → IsSession choice a b failed new reads ending
-session_on choice a b failed old new reads ending on s = record {
+session_on : (choice : Choice) (a b : Option (List ℕ)) (failed old new : Bool) (reads : List Read) (outcome : Outcome) → (old ≡ true → new ≡ true)
+    → IsSession choice a b failed old reads outcome → IsSession choice a b failed new reads outcome
+session_on choice a b failed old new reads outcome on s = record {
   few = s.few;
   between = s.between;
   follow = s.follow;
-  stops = stops_on IsTypedPayload TypedReason choice.limits (length reads) s.between b failed old new ending on s.stops;
+  stops = stops_on IsTypedPayload TypedReason choice.limits (length reads) s.between b failed old new outcome on s.stops;
   may = s.may;
 }
 
 -- messages of hexadecimal text end for the same reason where another sink failed
-pub reads_on : (hex : Bool) (choice : Choice) (a b : SourceState) (old new : Bool) (reads : List Read) (ending : Ending) → (old ≡ true → new ≡ true)
-    → ReadsIn hex choice a b old reads ending → ReadsIn hex choice a b new reads ending
+pub reads_on : (hex : Bool) (choice : Choice) (a b : SourceState) (old new : Bool) (reads : List Read) (outcome : Outcome) → (old ≡ true → new ≡ true)
+    → ReadsIn hex choice a b old reads outcome → ReadsIn hex choice a b new reads outcome
 reads_on false choice a b old new reads how on h = (session_on choice a.coming b.coming b.failed old new reads how on h.0, h.1)
 reads_on true choice a b old new reads how on (Ok bytes, i, r) =
     (Ok bytes, i, (r.0, session_on choice (Some bytes) r.0 false old new reads how on r.1, r.2, r.3))

@@ -1,5 +1,5 @@
 -- The bytes of a block.
-use Rattle.ndef_program.specs.Quoting.{Text}
+use Rattle.ndef_cli.specs.Quoting.{Text}
 use Rattle.ndef_tool.specs.declared.block.Block.{Block}
 use Rattle.ndef_tool.specs.declared.block.Block.TheVariants.{Line, Bytes}
 

@@ -1,18 +1,18 @@
--- What the words ask for.
+-- The choices that the words make.
 use Rattle.std.specs.Prelude.{◌≡◌, ◌≤◌, ℕ, List, Option, Some, None, Result, Ok, Err, codes, if◌then◌else◌, ⊤, option_and_then, option_map}
 use Rattle.std.specs.Option.{option_map_or, ForSome}
 use Rattle.std.specs.Str.{bytes_eq}
 use Rattle.clap.specs.Words.{App, Row, Text, first_of, fault_of, subcommand_of}
 use Rattle.ndef_message.specs.declared.form.Form.{Form}
 use Rattle.ndef_message.specs.declared.form.Form.TheVariants.{Short, Long}
-use Rattle.ndef_program.specs.LimitOptions.{chosen_limits, given_number}
-use Rattle.ndef_program.specs.Options.{hex_of, unless_fault}
+use Rattle.ndef_cli.specs.LimitOptions.{chosen_limits, given_number}
+use Rattle.ndef_cli.specs.Options.{hex_of, unless_fault}
 use Rattle.ndef_tool.specs.CommandLine.{ndef_app}
 use Rattle.ndef_tool.specs.declared.choice.Action.{Action}
 use Rattle.ndef_tool.specs.declared.choice.Action.TheVariants.{Show, Check, Encode}
 use Rattle.ndef_tool.specs.declared.choice.Choice.{Choice}
-use Rattle.ndef_program.specs.declared.words_error.WordsError.{WordsError}
-use Rattle.ndef_program.specs.declared.words_error.WordsError.TheVariants.{Usage, NoMemory}
+use Rattle.ndef_cli.specs.declared.args_error.ArgsError.{ArgsError}
+use Rattle.ndef_cli.specs.declared.args_error.ArgsError.TheVariants.{Usage, NoMemory}
 
 -- ---- numbers
 
@@ -35,7 +35,7 @@ chosen_form rows = option_map_or form_named (first_of (codes "form") rows) (Some
 
 -- ---- a choice
 
--- what encode does
+-- the action of encode
 abbrev pub encode_of : List Row → Option Action
 encode_of rows =
     option_and_then (λ form. option_map (λ chunk. Encode form chunk) (chunk_of rows)) (chosen_form rows)
@@ -56,16 +56,16 @@ subcommand_choice name rows =
 abbrev pub chosen_of : Option (Text × List Row) → Option Choice
 chosen_of = option_and_then (λ p. subcommand_choice p.0 p.1)
 
--- what the words choose on a command line: nothing where clap finds a fault in them
+-- the choices of the words on a command line: nothing where clap finds a fault in them
 abbrev pub choice_by : App → List Text → Option Choice
 choice_by app words = unless_fault (fault_of app words) (chosen_of (subcommand_of app words))
 
--- what the words choose by the subcommands and options of ndef
+-- the choices of the words by the subcommands and options of ndef
 abbrev pub choice_of : List Text → Option Choice
 choice_of words = choice_by ndef_app words
 
 -- the outcome of the words: the choice, and the usage line exactly where there is none
-abbrev pub Chooses : List Text → Result Choice WordsError → Type 0
+abbrev pub Chooses : List Text → Result Choice ArgsError → Type 0
 Chooses words (Ok choice) = choice_of words ≡ Some choice
 Chooses words (Err Usage) = choice_of words ≡ None
 Chooses words (Err NoMemory) = ⊤

@@ -1,7 +1,7 @@
 -- The command line: which subcommands and options there are, in clap's words.
 use Rattle.std.specs.Prelude.{codes, true}
 use Rattle.clap.specs.Words.{App, new_app, with_rule, with_subcommand}
-use Rattle.ndef_program.specs.CommandLine.{number_rule, reading_app, word_rule}
+use Rattle.ndef_cli.specs.CommandLine.{number_rule, reading_app, word_rule}
 
 -- the options of reading, and how messages are written
 abbrev pub encode_app : App

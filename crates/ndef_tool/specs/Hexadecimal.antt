@@ -1,4 +1,4 @@
--- Hexadecimal text, and the bytes that it stands for.
+-- Hexadecimal text, and the bytes that it denotes.
 use Rattle.std.specs.Prelude.{◌≡◌, ◌<◌, ◌⊎◌, ◌==◌, ◌||◌, not, ℕ, Bool, List, length, Result, Ok, Err}
 use Rattle.std.specs.List.{filter}
 use Rattle.hex.specs.Hex.{decode_of}
@@ -7,9 +7,9 @@ use Rattle.ndef_message.specs.Inputs.{IsWholeInput}
 use Rattle.ndef_message.specs.Sources.{SourceState}
 use Rattle.ndef_message.specs.declared.input.InputError.{InputError}
 use Rattle.ndef_message.specs.declared.input.InputError.TheVariants as errors
-use Rattle.ndef_program.specs.Endings.{fault_of, input_ending}
-use Rattle.ndef_program.specs.declared.ending.Ending.{Ending}
-use Rattle.ndef_program.specs.declared.ending.Ending.TheVariants.{Hex, Memory}
+use Rattle.ndef_cli.specs.Outcomes.{fault_of, input_outcome}
+use Rattle.ndef_cli.specs.declared.outcome.Outcome.{Outcome}
+use Rattle.ndef_cli.specs.declared.outcome.Outcome.TheVariants.{Hex, Memory}
 
 -- ASCII space, tab, CR and LF
 abbrev pub is_space : ℕ → Bool
@@ -23,9 +23,9 @@ without_spaces text = filter (λ byte. not (is_space byte)) text
 abbrev pub IsTextInput : (before after : SourceState) → Bool → Result (List ℕ) InputError → Type 0
 IsTextInput = IsWholeInput 16777216
 
--- the bytes that digits stand for, or what is wrong with them, or that there was no memory for
+-- the bytes that digits denote, or the fault of the digits, or that there was no memory for
 -- these bytes
-abbrev pub AreDecoded : List ℕ → Result (List ℕ) Ending → Type 0
+abbrev pub AreDecoded : List ℕ → Result (List ℕ) Outcome → Type 0
 AreDecoded digits (Ok bytes) = decode_of digits ≡ Ok bytes
 AreDecoded digits (Err (Hex fault)) =
     (error : FromHexError) × (decode_of digits ≡ Err error) × (fault ≡ fault_of error)
@@ -34,12 +34,12 @@ AreDecoded digits (Err Memory) =
 AreDecoded digits (Err _) = ⊥
 
 -- the same of a text with white space
-abbrev pub IsDecoded : List ℕ → Result (List ℕ) Ending → Type 0
+abbrev pub IsDecoded : List ℕ → Result (List ℕ) Outcome → Type 0
 IsDecoded text = AreDecoded (without_spaces text)
 
--- the bytes that the text to come stands for, or why there are none: memory fails for the text, or
+-- the bytes that the text to come denotes, or why there are none: memory fails for the text, or
 -- for its bytes
-abbrev pub IsHexInput : (before after : SourceState) → Bool → Result (List ℕ) Ending → Type 0
+abbrev pub IsHexInput : (before after : SourceState) → Bool → Result (List ℕ) Outcome → Type 0
 IsHexInput before after failed (Ok bytes) =
     (text : List ℕ) × IsTextInput before after failed (Ok text)
     × IsDecoded text (Ok bytes)
@@ -48,6 +48,6 @@ IsHexInput before after failed (Err (Hex fault)) =
     × IsDecoded text (Err (Hex fault))
 IsHexInput before after failed (Err Memory) = IsTextInput before after failed (Err errors.NoMemory)
     ⊎ ((text : List ℕ) × IsTextInput before after failed (Ok text) × IsDecoded text (Err Memory))
-IsHexInput before after failed (Err ending) =
+IsHexInput before after failed (Err outcome) =
     (error : InputError) × IsTextInput before after failed (Err error)
-    × (ending ≡ input_ending error)
+    × (outcome ≡ input_outcome error)

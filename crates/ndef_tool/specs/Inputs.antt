@@ -8,28 +8,28 @@ use Rattle.ndef_tool.specs.Rules.{typed_rules}
 use Rattle.ndef_tool.specs.Sessions.{Handles, IsSession, SessionHasTaken, Silences, TakesAfter}
 use Rattle.ndef_tool.specs.Streams.{Streams}
 use Rattle.ndef_tool.specs.declared.choice.Choice.{Choice}
-use Rattle.ndef_program.specs.declared.ending.Ending.{Ending}
+use Rattle.ndef_cli.specs.declared.outcome.Outcome.{Outcome}
 use Rattle.ndef_tool.specs.declared.session.Session.{Session}
 
 -- what is read of bytes, and taken of those after the last message; or none, where there are no
 -- bytes
-abbrev pub ReadsBytes : Choice → (sink_failed : Bool) → Result (List ℕ) Ending → List Read → Ending
+abbrev pub ReadsBytes : Choice → (sink_failed : Bool) → Result (List ℕ) Outcome → List Read → Outcome
     → Type 0
-ReadsBytes choice sink_failed (Ok bytes) reads ending =
-    (left : Option (List ℕ)) × IsSession choice (Some bytes) left false sink_failed reads ending
-    × (n : ℕ) × TakesAfter (typed_rules choice.limits) (Some (drop (total_bytes reads) bytes)) ending n
-ReadsBytes choice sink_failed (Err why) reads ending = (reads ≡ []) × (ending ≡ why)
+ReadsBytes choice sink_failed (Ok bytes) reads outcome =
+    (left : Option (List ℕ)) × IsSession choice (Some bytes) left false sink_failed reads outcome
+    × (n : ℕ) × TakesAfter (typed_rules choice.limits) (Some (drop (total_bytes reads) bytes)) outcome n
+ReadsBytes choice sink_failed (Err why) reads outcome = (reads ≡ []) × (outcome ≡ why)
 
--- what is read of the bytes to come, and how many are taken; or of those that they stand for
+-- the result of reading the bytes to come, and how many are taken; or of reading those that they denote
 abbrev pub ReadsIn : (hex : Bool) → Choice → (before after : SourceState) → (sink_failed : Bool)
-    → List Read → Ending
+    → List Read → Outcome
     → Type 0
-ReadsIn false choice before after sink_failed reads ending =
-    IsSession choice before.coming after.coming after.failed sink_failed reads ending
-    × SessionHasTaken (typed_rules choice.limits) (total_bytes reads) before.coming before.taken after.taken ending
-ReadsIn true choice before after sink_failed reads ending = (input : Result (List ℕ) Ending)
+ReadsIn false choice before after sink_failed reads outcome =
+    IsSession choice before.coming after.coming after.failed sink_failed reads outcome
+    × SessionHasTaken (typed_rules choice.limits) (total_bytes reads) before.coming before.taken after.taken outcome
+ReadsIn true choice before after sink_failed reads outcome = (input : Result (List ℕ) Outcome)
     × IsHexInput before after after.failed input
-    × ReadsBytes choice sink_failed input reads ending
+    × ReadsBytes choice sink_failed input reads outcome
 
 -- the messages that were read, and their blocks
 abbrev pub HandlesIn : (hex : Bool) → Choice → (before after : Streams) → Session → Type 0

@@ -1,4 +1,4 @@
--- What `show` prints of the links of a message.
+-- The output of `show` for the links of a message.
 use Rattle.std.specs.Prelude.{◌≡◌, ◌+◌, ◌<◌, IfSome, ℕ, List, [], ◌∷◌, ◌++◌, codes, decimal, Option, None, Some, Ok}
 use Rattle.ndef_format.specs.Messages.{Item}
 use Rattle.ndef_format.specs.declared.profile.Profile.{Profile}
@@ -6,7 +6,7 @@ use Rattle.ndef_types.specs.Links.{FindsLinks}
 use Rattle.ndef_types.specs.declared.link.Link.{Link}
 use Rattle.ndef_types.specs.declared.power.Power.{Power}
 use Rattle.ndef_types.specs.declared.power.Power.TheVariants.{Inactive, Active, Activating, Unknown}
-use Rattle.ndef_program.specs.Quoting.{Text, quoted}
+use Rattle.ndef_cli.specs.Quoting.{Text, quoted}
 
 -- Connection Handover 1.2, Alternative Carrier record, carrier power state
 abbrev pub power_name : Power → Text

@@ -1,19 +1,19 @@
--- What the command prints of a subcommand, the messages that were read and the ending: one text, as
--- a law of src/laws.rt says.
+-- The output of a subcommand for the messages that were read and the ending: one text, as
+-- a law of src/laws.rt states.
 use Rattle.std.specs.Prelude.{◌≡◌, Bool, true, false, ◌+◌, ℕ, List, [], ◌∷◌, ◌++◌, length, codes, decimal}
 use Rattle.std.specs.List.{AllByRecursion}
-use Rattle.ndef_program.specs.Outputs.{hexadecimal_line}
+use Rattle.ndef_cli.specs.Outputs.{hexadecimal_line}
 use Rattle.ndef_message.specs.declared.message_reading.Read.{Read}
 use Rattle.ndef_message.specs.Written.{cut_octets}
-use Rattle.ndef_program.specs.Quoting.{Text}
+use Rattle.ndef_cli.specs.Quoting.{Text}
 use Rattle.ndef_tool.specs.Showing.{AreRecordLines, IsTyped}
 use Rattle.ndef_tool.specs.Linking.{AreLinkLines}
 use Rattle.ndef_format.specs.declared.profile.Profile.{Profile}
 use Rattle.ndef_tool.specs.declared.choice.Action.{Action}
 use Rattle.ndef_tool.specs.declared.choice.Action.TheVariants.{Show, Check, Encode}
 use Rattle.ndef_tool.specs.declared.choice.Choice.{Choice}
-use Rattle.ndef_program.specs.Endings.{ending_text}
-use Rattle.ndef_program.specs.declared.ending.Ending.{Ending}
+use Rattle.ndef_cli.specs.Outcomes.{outcome_text}
+use Rattle.ndef_cli.specs.declared.outcome.Outcome.{Outcome}
 
 -- ---- lines
 
@@ -31,10 +31,10 @@ message_line number at records bytes =
     ++ codes ", bytes " ++ decimal bytes ++ codes "\n"
 
 -- `encode` leaves it out
-abbrev pub ending_line : Action → ℕ → Ending → Text
-ending_line Show base how = ending_text base how
-ending_line Check base how = ending_text base how
-ending_line (Encode form size) base how = []
+abbrev pub outcome_line : Action → ℕ → Outcome → Text
+outcome_line Show base how = outcome_text base how
+outcome_line Check base how = outcome_text base how
+outcome_line (Encode form size) base how = []
 
 -- ---- a whole run
 
@@ -50,7 +50,7 @@ IsShown profile number at read text =
     × AreLinkLines profile read.message links
     × (text ≡ message_line number at (length read.message) read.taken ++ records ++ links)
 
--- what is printed of a message, with its number and its place
+-- the output for a message, with its number and its place
 abbrev pub IsBlockBy : Action → Profile → (hex : Bool) → (number at : ℕ) → Read → Text → Type 0
 IsBlockBy Show profile hex number at read text = IsShown profile number at read text
 IsBlockBy Check profile hex number at read text =
@@ -58,7 +58,7 @@ IsBlockBy Check profile hex number at read text =
 IsBlockBy (Encode form size) profile hex number at read text =
     text ≡ bytes_or_digits hex (cut_octets form size read.message)
 
--- what is printed of a message as it was chosen
+-- the output for a message as it was chosen
 abbrev pub IsBlock : Choice → (number at : ℕ) → Read → Text → Type 0
 IsBlock choice number at read text =
     IsBlockBy choice.action choice.limits.profile choice.hex number at read text
@@ -76,15 +76,15 @@ total_bytes [] = 0
 total_bytes (read ∷ reads) = read.taken + total_bytes reads
 
 -- all that is printed
-abbrev pub IsOutput : Choice → List Read → Ending → Text → Type 0
-IsOutput choice reads ending text = (front : Text) × AreBlocks choice 1 0 reads front
-    × (text ≡ front ++ ending_line choice.action (total_bytes reads) ending)
+abbrev pub IsOutput : Choice → List Read → Outcome → Text → Type 0
+IsOutput choice reads outcome text = (front : Text) × AreBlocks choice 1 0 reads front
+    × (text ≡ front ++ outcome_line choice.action (total_bytes reads) outcome)
 
 -- ---- a law
 
--- What is printed of messages whose payloads are those of their types, and of an ending, is one
+-- The output for messages whose payloads are those of their types, and for an ending, is one
 -- text.
 abbrev pub OneOutput : Type 0
-OneOutput = (choice : Choice) (reads : List Read) (ending : Ending) (a b : Text)
+OneOutput = (choice : Choice) (reads : List Read) (outcome : Outcome) (a b : Text)
     → AllByRecursion (λ r. AllByRecursion (IsTyped choice.limits.profile) r.message) reads
-    → IsOutput choice reads ending a → IsOutput choice reads ending b → a ≡ b
+    → IsOutput choice reads outcome a → IsOutput choice reads outcome b → a ≡ b

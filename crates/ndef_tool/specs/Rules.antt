@@ -1,4 +1,4 @@
--- How messages are read.
+-- The rules by which messages are read.
 use Rattle.ndef_format.specs.Limits.{LimitValues}
 use Rattle.ndef_format.specs.NestedReasons.{TypedReason}
 use Rattle.ndef_format.specs.Payloads.{IsTypedPayload, Sets}

@@ -1,4 +1,4 @@
--- What `show` prints of the records of a message: the values for which their payloads stand.
+-- The output of `show` for the records of a message: the values of their payloads.
 use Rattle.std.specs.Prelude.{◌≡◌, ◌+◌, ℕ, List, [], ◌∷◌, ◌++◌, length, codes, decimal, Option, None, Some, unwrap_or, encode_utf8_all}
 use Rattle.ndef_format.specs.Messages.{Item}
 use Rattle.ndef_format.specs.Records.{code}
@@ -16,7 +16,7 @@ use Rattle.ndef_types.specs.declared.action.Action.{Action}
 use Rattle.ndef_types.specs.declared.action.Action.TheVariants.{Do, Save, Open, Other}
 use Rattle.ndef_types.specs.declared.encoding.Encoding.{Encoding}
 use Rattle.ndef_types.specs.declared.encoding.Encoding.TheVariants.{Utf8, Utf16}
-use Rattle.ndef_program.specs.Quoting.{Text, quoted}
+use Rattle.ndef_cli.specs.Quoting.{Text, quoted}
 
 -- a text of this sort is appended
 abbrev pub Adds : (before after : Text) → (Text → Type 0) → Type 0
@@ -30,14 +30,14 @@ encoding_name Utf8 = codes "utf-8"
 encoding_name Utf16 = codes "utf-16"
 
 -- RTD Text 1.0: the encoding, the language code and the text, this in UTF-8
-abbrev pub told_text : TextValue → Text
-told_text v =
+abbrev pub reported_text : TextValue → Text
+reported_text v =
     codes " text " ++ encoding_name v.encoding ++ codes " " ++ quoted v.language ++ codes " "
     ++ quoted (encode_utf8_all v.text)
 
 -- RTD URI 1.0: the whole URI
-abbrev pub told_uri : List ℕ → Text
-told_uri uri = codes " uri " ++ quoted uri
+abbrev pub reported_uri : List ℕ → Text
+reported_uri uri = codes " uri " ++ quoted uri
 
 -- ---- smart posters
 
@@ -72,7 +72,7 @@ poster_back action size media =
     codes " action " ++ action_name action ++ codes " size " ++ size_name size
     ++ codes " media " ++ media_name media
 
--- RTD Smart Poster 1.0: what the records of a poster say
+-- RTD Smart Poster 1.0: the values of the records of a poster
 abbrev pub TellsPoster : List Item → Text → Type 0
 TellsPoster items text =
     (uri : List ℕ) × (action : Option Action) × (size : Option ℕ) × (media : Option (List ℕ))
@@ -85,41 +85,41 @@ TellsPoster items text =
 -- ---- handovers
 
 -- Connection Handover 1.2, Handover Request record: the minor version, and the number of carriers
-abbrev pub told_request : RequestValue → Text
-told_request v = codes " request version 1." ++ decimal v.minor ++ codes " carriers "
+abbrev pub reported_request : RequestValue → Text
+reported_request v = codes " request version 1." ++ decimal v.minor ++ codes " carriers "
     ++ decimal (length (alternatives v.items))
 
 -- Connection Handover 1.2, Handover Select record: the same
-abbrev pub told_select : SelectValue → Text
-told_select v = codes " select version 1." ++ decimal v.minor ++ codes " carriers "
+abbrev pub reported_select : SelectValue → Text
+reported_select v = codes " select version 1." ++ decimal v.minor ++ codes " carriers "
     ++ decimal (length (alternatives (unwrap_or v.message [])))
 
 -- Connection Handover 1.2, Handover Carrier record: the format and the type, and the number of
 -- octets of data
-abbrev pub told_carrier : CarrierValue → Text
-told_carrier v =
+abbrev pub reported_carrier : CarrierValue → Text
+reported_carrier v =
     codes " carrier format " ++ decimal v.format ++ codes " type " ++ quoted v.kind
     ++ codes " data "
     ++ decimal (length v.carried)
 
 -- ---- records
 
--- what is printed of the value for which a payload of the kind stands
+-- the output for the value of a payload of the kind
 abbrev pub PrintsValue : Kind → Profile → List ℕ → Text → Type 0
 PrintsValue kinds.Text profile payload text =
-    (v : TextValue) × StandsForText payload v × (text ≡ told_text v)
+    (v : TextValue) × StandsForText payload v × (text ≡ reported_text v)
 PrintsValue kinds.Uri profile payload text =
-    (uri : List ℕ) × StandsForUri payload uri × (text ≡ told_uri uri)
+    (uri : List ℕ) × StandsForUri payload uri × (text ≡ reported_uri uri)
 PrintsValue kinds.SmartPoster profile payload text =
     (items : List Item) × StandsForPoster profile payload items × TellsPoster items text
 PrintsValue kinds.Request profile payload text =
     (v : RequestValue) × StandsForRequest profile payload v
-    × (text ≡ told_request v)
+    × (text ≡ reported_request v)
 PrintsValue kinds.Select profile payload text =
     (v : SelectValue) × StandsForSelect profile payload v
-    × (text ≡ told_select v)
+    × (text ≡ reported_select v)
 PrintsValue kinds.Carrier profile payload text = (v : CarrierValue) × StandsForCarrier payload v
-    × (text ≡ told_carrier v)
+    × (text ≡ reported_carrier v)
 PrintsValue kinds.Other profile payload text = text ≡ codes " other"
 PrintsValue kinds.Action profile payload text = text ≡ codes " other"
 PrintsValue kinds.Size profile payload text = text ≡ codes " other"
@@ -144,8 +144,8 @@ record_front number i =
 -- the line of a record
 abbrev pub IsRecordLine : Profile → ℕ → Item → Text → Type 0
 IsRecordLine profile number i line =
-    (told : Text) × PrintsValue (kind_of i.tnf i.kind) profile i.payload told
-    × (line ≡ record_front number i ++ told ++ codes "\n")
+    (reported : Text) × PrintsValue (kind_of i.tnf i.kind) profile i.payload reported
+    × (line ≡ record_front number i ++ reported ++ codes "\n")
 
 -- the lines of records, of which the first has this number
 abbrev pub AreRecordLines : Profile → ℕ → List Item → Text → Type 0

@@ -1,4 +1,4 @@
--- What a run reads and writes.
+-- The bytes that a run reads and writes.
 use Rattle.ndef_message.specs.States.{SinkState, SourceState, sink_state, source_state}
 use Rattle.ndef_message.specs.declared.sink.Sink.{Ghosts as SinkOf}
 use Rattle.ndef_message.specs.declared.source.Source.{Ghosts as SourceOf}

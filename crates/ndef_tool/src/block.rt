@@ -1,4 +1,4 @@
-//! What is printed of a message.
+//! The output for a message.
 ghost use Rattle.std.specs.Prelude.{◌≡◌, IfOk};
 ghost use Rattle.ndef_message.specs.Written.{cut_octets};
 ghost use Rattle.std.specs.List.{AllByRecursion};
@@ -10,8 +10,8 @@ ghost use Rattle.ndef_tool.specs.Blocks.{block_text};
 use crate::linking::push_link_lines;
 use crate::printing::{MessageLine, message_line};
 use crate::showing::push_records;
+use ndef_cli::hexadecimal_line;
 use ndef_message::{Checked, Form, Read, encode, encode_chunked};
-use ndef_program::hexadecimal_line;
 use ndef_value::{Bytes, Message, NoMemory, Profile};
 use std::alloc::Global;
 
@@ -60,7 +60,7 @@ fn block_in(alloc: Global, hex: bool, bytes: Bytes) -> Result<Block, NoMemory>
     Ok(Block::Bytes(bytes))
 }
 
-/// What `check` prints of a message, with its number from 1 and its place in the input: its line.
+/// Returns the output of `check` for a message, with its number from 1 and its place in the input: its line.
 pub fn check_block(number: u64, at: u64, checked: Checked) -> Block
     ensures { block_text result ≡ message_line number at checked.records checked.taken }
 {
@@ -68,10 +68,10 @@ pub fn check_block(number: u64, at: u64, checked: Checked) -> Block
     Block::Line(message_line(number, at, records, checked.taken))
 }
 
-/// The bytes for which memory is taken at once for what `show` prints of a message; more where it is longer.
+/// The bytes for which memory is taken at once for the output of `show` for a message; more where it is longer.
 const USUAL: usize = 256;
 
-/// What `show` prints of it: its line, the lines of the records and those of the links.
+/// Returns the output of `show` for it: its line, the lines of the records and those of the links.
 pub fn show_block(
     alloc: Global,
     profile: Profile,
@@ -90,7 +90,7 @@ pub fn show_block(
     Ok(Block::Bytes(lines))
 }
 
-/// What `encode` prints of it: its bytes, or their digits.
+/// Returns the output of `encode` for it: its bytes, or their digits.
 pub fn encode_block(
     alloc: Global,
     hex: bool,

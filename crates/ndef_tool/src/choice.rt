@@ -1,4 +1,4 @@
-//! What the words ask for.
+//! The choices that the words make.
 ghost use Rattle.std.specs.Prelude.{◌≡◌, map, string_bytes, IfOk, IfSome};
 ghost use Rattle.clap.specs.Words.{rows_of, found_of, subcommand_rows_of};
 ghost use Rattle.ndef_tool.specs.Chosen.{Chooses, HasSize, HasSizeIfAny, chosen_action, subcommand_choice, chosen_of, chunk_of};
@@ -7,12 +7,12 @@ ghost use Rattle.ndef_tool.specs.Chosen.{form_named, chosen_form};
 use crate::command::ndef_command;
 use clap::ArgMatches;
 use clap::error::ErrorKind;
+use ndef_cli::{ArgsError, hex_given, limits_given, number_given, option_text};
 use ndef_message::Form;
-use ndef_program::{WordsError, hex_given, limits_given, number_given, option_text};
 use ndef_value::Limits;
 use std::alloc::Global;
 
-/// What is done with each message.
+/// The action on each message.
 #[derive(Clone, Copy, Debug, PartialEq, Eq)]
 pub enum Action {
     /// A line is printed, and a line of each record and each link.
@@ -23,7 +23,7 @@ pub enum Action {
     Encode(Form, Option<u32>),
 }
 
-/// What the words choose.
+/// The choices of the words.
 #[derive(Clone, Copy, Debug)]
 pub struct Choice {
     pub action: Action,
@@ -64,7 +64,7 @@ fn form_given(matches: &ArgMatches<'_>) -> Option<Form>
     }
 }
 
-/// What the subcommand of this name does.
+/// Returns the action of the subcommand of this name.
 fn action_given(name: &str, matches: &ArgMatches<'_>) -> Option<Action>
     ensures value { result ≡ chosen_action name.now (rows_of (found_of matches.now)) }
     ensures some { IfSome result HasSize }
@@ -80,7 +80,7 @@ fn action_given(name: &str, matches: &ArgMatches<'_>) -> Option<Action>
     }
 }
 
-/// What the subcommand of this name and its options choose.
+/// Returns the choices of the subcommand of this name and its options.
 fn choice_given(name: &str, matches: &ArgMatches<'_>) -> Option<Choice>
     ensures value { result ≡ subcommand_choice name.now (rows_of (found_of matches.now)) }
     ensures some { IfSome result (λ choice. HasSize choice.action) }
@@ -94,7 +94,7 @@ fn choice_given(name: &str, matches: &ArgMatches<'_>) -> Option<Choice>
     })
 }
 
-/// What clap's matches choose.
+/// Returns the choices of clap's matches.
 fn chosen(matches: &ArgMatches<'_>) -> Option<Choice>
     ensures value { result ≡ chosen_of (subcommand_rows_of matches.now) }
     ensures some { IfSome result (λ choice. HasSize choice.action) }
@@ -103,22 +103,22 @@ fn chosen(matches: &ArgMatches<'_>) -> Option<Choice>
     choice_given(name, matches)
 }
 
-/// What the words choose, of which the first is the program's name.
-pub fn choose(alloc: Global, words: &[String]) -> Result<Choice, WordsError>
+/// Returns the choices of the words, of which the first is the program's name.
+pub fn choose(alloc: Global, words: &[String]) -> Result<Choice, ArgsError>
     ensures chosen { Chooses (map string_bytes words.now) result }
     ensures some { IfOk result (λ choice. HasSize choice.action) }
 {
     let Ok(command) = ndef_command(alloc) else {
-        return Err(WordsError::NoMemory);
+        return Err(ArgsError::NoMemory);
     };
     match command.try_get_matches_from(words) {
         Ok(matches) => match chosen(&matches) {
             Some(choice) => Ok(choice),
-            None => Err(WordsError::Usage),
+            None => Err(ArgsError::Usage),
         },
         Err(error) => match error.kind() {
-            ErrorKind::OutOfMemory => Err(WordsError::NoMemory),
-            _ => Err(WordsError::Usage),
+            ErrorKind::OutOfMemory => Err(ArgsError::NoMemory),
+            _ => Err(ArgsError::Usage),
         },
     }
 }

@@ -1,4 +1,4 @@
-//! What is printed of handover requests and selects.
+//! The output for handover requests and selects.
 ghost use Rattle.std.specs.Prelude.{◌≡◌, ◌<◌, ◌^◌, ◌++◌, [], length, unwrap_or, OnOk};
 ghost use Rattle.ndef_value.specs.declared.limits.TheConstants.{MOST_RECORDS};
 ghost use Rattle.ndef_format.specs.Kinds.{kind_of};
@@ -6,11 +6,11 @@ ghost use Rattle.ndef_format.specs.declared.kind.Kind.TheVariants as kinds;
 ghost use Rattle.ndef_format.specs.Nested.{IsNest};
 ghost use Rattle.ndef_format.specs.declared.table.Table.TheVariants as tables;
 ghost use Rattle.ndef_types.specs.Links.{alternatives, is_alternative};
-ghost use Rattle.ndef_tool.specs.Showing.{Adds, PrintsValue, told_request, told_select};
+ghost use Rattle.ndef_tool.specs.Showing.{Adds, PrintsValue, reported_request, reported_select};
 
 use crate::kinds::kind_of;
+use ndef_cli::push_counted;
 use ndef_lang::Kind;
-use ndef_program::push_counted;
 use ndef_types::{Request, Select, read_request, read_select};
 use ndef_value::{Bytes, Message, NoMemory, Profile, Record};
 use std::alloc::Global;
@@ -42,14 +42,14 @@ fn count_of(message: &Message) -> u64
 }
 
 /// Appends the minor version of a request and its number of carriers.
-fn push_told_request(line: &mut Bytes, request: &Request) -> Result<(), NoMemory>
-    ensures { OnOk result (line.new ≡ line.old ++ told_request request.now) }
+fn push_reported_request(line: &mut Bytes, request: &Request) -> Result<(), NoMemory>
+    ensures { OnOk result (line.new ≡ line.old ++ reported_request request.now) }
 {
     push_counted(line, b" request version 1.", u64::from(request.minor()))?;
     push_counted(line, b" carriers ", count_of(request.message()))
 }
 
-/// Appends what is printed of the payload of a handover request record.
+/// Appends the output for the payload of a handover request record.
 pub fn push_request(
     alloc: Global,
     line: &mut Bytes,
@@ -60,7 +60,7 @@ pub fn push_request(
     ensures { OnOk result (Adds line.old line.new (PrintsValue kinds.Request profile payload.now)) }
 {
     let request = read_request(alloc, payload, profile)?;
-    push_told_request(line, &request)
+    push_reported_request(line, &request)
 }
 
 /// The number of carriers of a select.
@@ -74,14 +74,14 @@ fn selected_count(select: &Select) -> u64
 }
 
 /// Appends the minor version of a select and its number of carriers.
-fn push_told_select(line: &mut Bytes, select: &Select) -> Result<(), NoMemory>
-    ensures { OnOk result (line.new ≡ line.old ++ told_select select.now) }
+fn push_reported_select(line: &mut Bytes, select: &Select) -> Result<(), NoMemory>
+    ensures { OnOk result (line.new ≡ line.old ++ reported_select select.now) }
 {
     push_counted(line, b" select version 1.", u64::from(select.minor()))?;
     push_counted(line, b" carriers ", selected_count(select))
 }
 
-/// Appends what is printed of the payload of a handover select record.
+/// Appends the output for the payload of a handover select record.
 pub fn push_select(
     alloc: Global,
     line: &mut Bytes,
@@ -92,5 +92,5 @@ pub fn push_select(
     ensures { OnOk result (Adds line.old line.new (PrintsValue kinds.Select profile payload.now)) }
 {
     let select = read_select(alloc, payload, profile)?;
-    push_told_select(line, &select)
+    push_reported_select(line, &select)
 }

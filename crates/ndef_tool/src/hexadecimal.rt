@@ -3,14 +3,14 @@ ghost use Rattle.std.specs.Prelude.{◌≡◌, ◌<◌, ◌%◌, false, length, 
 ghost use Rattle.hex.specs.Hex.{is_hex_digit};
 ghost use Rattle.ndef_message.specs.Inputs.{bytes_of};
 ghost use Rattle.ndef_message.specs.States.{source_state};
-ghost use Rattle.ndef_program.specs.Endings.{fault_of};
+ghost use Rattle.ndef_cli.specs.Outcomes.{fault_of};
 ghost use Rattle.ndef_tool.specs.Hexadecimal.{AreDecoded, IsDecoded, IsHexInput, without_spaces, is_space};
-ghost use Rattle.ndef_program.specs.Endings.{FitsPlace};
+ghost use Rattle.ndef_cli.specs.Outcomes.{FitsPlace};
 ghost use Rattle.ndef_tool.specs.Sessions.{is_writing};
 
 use hex::FromHexError;
+use ndef_cli::{HexFault, Outcome};
 use ndef_message::{Source, read_all};
-use ndef_program::{Ending, HexFault};
 use std::alloc::Global;
 
 /// The most bytes of text that are read.
@@ -30,7 +30,7 @@ fn drop_spaces(text: &mut Vec<u8>)
     text.retain(|byte| !is_space(*byte));
 }
 
-/// What is wrong with the digits.
+/// Returns the fault of the digits.
 fn fault_of(error: FromHexError) -> HexFault
     ensures { result ≡ fault_of error }
 {
@@ -49,21 +49,21 @@ fn is_digit(byte: u8) -> bool
 
 /// Why an even number of digits, for whose bytes there was no memory, gives no bytes: one of them is no digit, or else
 /// memory.
-fn without_memory(digits: &[u8]) -> Ending
+fn without_memory(digits: &[u8]) -> Outcome
     requires some { 0 < length digits.now }
     requires even { length digits.now % 2 ≡ 0 }
     ensures { AreDecoded digits.now (Err result) }
 {
     for (place, digit) in digits.iter().enumerate() {
         if !is_digit(*digit) {
-            return Ending::Hex(HexFault::BadDigit(place as u64));
+            return Outcome::Hex(HexFault::BadDigit(place as u64));
         }
     }
-    Ending::Memory
+    Outcome::Memory
 }
 
-/// The bytes that the digits of a text stand for. What is wrong with them comes before a lack of memory.
-fn decode_text(alloc: Global, text: Vec<u8>) -> Result<Vec<u8>, Ending>
+/// Returns the bytes that the digits of a text denote. A fault of the digits comes before a lack of memory.
+fn decode_text(alloc: Global, text: Vec<u8>) -> Result<Vec<u8>, Outcome>
     ensures { IsDecoded text.items (bytes_of result) }
 {
     let mut text = text;
@@ -74,16 +74,16 @@ fn decode_text(alloc: Global, text: Vec<u8>) -> Result<Vec<u8>, Ending>
     match hex::decode(alloc, text.as_slice()) {
         Ok(bytes) => Ok(bytes),
         Err(FromHexError::OutOfMemory) => Err(without_memory(text.as_slice())),
-        Err(error) => Err(Ending::Hex(fault_of(error))),
+        Err(error) => Err(Outcome::Hex(fault_of(error))),
     }
 }
 
-/// The bytes that the text of the source stands for.
-pub fn read_hexadecimal<S: Source>(alloc: Global, source: &mut S) -> Result<Vec<u8>, Ending>
+/// Returns the bytes that the text of the source denotes.
+pub fn read_hexadecimal<S: Source>(alloc: Global, source: &mut S) -> Result<Vec<u8>, Outcome>
     ensures input { IsHexInput (source_state S.Source source.old) (source_state S.Source source.new)
         (S.has_failed source.new) (bytes_of result) }
-    ensures room { IfErr result (λ ending. FitsPlace 0 ending) }
-    ensures mark { IfErr result (λ ending. is_writing ending ≡ false) }
+    ensures room { IfErr result (λ outcome. FitsPlace 0 outcome) }
+    ensures mark { IfErr result (λ outcome. is_writing outcome ≡ false) }
 {
     let text = read_all(alloc, source, MOST)?;
     decode_text(alloc, text)

@@ -1,4 +1,4 @@
-//! What holds of what is printed.
+//! Properties of the output.
 ghost use Rattle.ndef_tool.specs.Output.{OneOutput};
 
 use ndef_types::{
@@ -6,9 +6,9 @@ use ndef_types::{
 };
 use ndef_value::one_meaning;
 
-/// What is printed of messages whose payloads are those of their types, and of an ending, is one
+/// The output for messages whose payloads are those of their types, and for an ending, is one
 /// text.
-pub fn output_is_told()
+pub fn output_is_exact()
     ensures { OneOutput }
 {
     one_meaning();

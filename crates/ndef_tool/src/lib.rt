@@ -1,16 +1,17 @@
-//! What the command `ndef` does: the words say what, messages come from a source, and what is printed
+//! The command `ndef`: the words choose the action, messages come from a source, and the output
 //! goes to a sink.
 //!
-//! Where to look:
+//! The files:
 //!
 //! - `running.rt`, `specs/Runs.antt`: one run. `session.rt`: the messages of the input. `reading.rt`:
 //!   the next one.
 //! - `choice.rt`, `command.rt`: the words, by clap. `hexadecimal.rt`: hexadecimal input.
-//! - `block.rt`, `printing.rt`, `specs/Output.antt`: what is printed.
+//! - `block.rt`, `printing.rt`, `specs/Output.antt`: the output.
 //! - `showing.rt`: the lines of records. `value_lines.rt`, `poster_lines.rt`, `handover_lines.rt`: of
 //!   their payloads.
 //! - `linking.rt`: the lines of links. `quoting.rt`: parts of lines.
-//! - `system.rt`: a run over the standard streams of the system.
+//! - `system.rt`: a run over the files and the standard streams of the system. `operands.rt`: the files that the words
+//!   name. `pages.rt`: the pages about the program itself.
 #![tactic(auto)]
 
 mod block;
@@ -21,6 +22,8 @@ mod hexadecimal;
 mod kinds;
 mod laws;
 mod linking;
+mod operands;
+mod pages;
 mod poster_lines;
 mod printing;
 mod quoting;

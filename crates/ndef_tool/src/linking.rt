@@ -5,7 +5,7 @@ ghost use Rattle.ndef_tool.specs.Showing.{Adds, IsTyped};
 ghost use Rattle.ndef_tool.specs.Linking.{AreLinkLines, HasNumber, link_line, link_lines, power_name, record_name};
 
 use crate::quoting::push_named;
-use ndef_program::{push_counted, push_number};
+use ndef_cli::{push_counted, push_number};
 use ndef_types::{Link, LinkError, Links, Power, carriers_as};
 use ndef_value::{Bytes, Message, NoMemory, Profile};
 use std::alloc::Global;

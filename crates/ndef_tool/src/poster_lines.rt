@@ -1,4 +1,4 @@
-//! What is printed of smart posters.
+//! The output for smart posters.
 ghost use Rattle.std.specs.Prelude.{◌≡◌, ◌<◌, ◌^◌, ◌++◌, length, option_map, OnOk};
 ghost use Rattle.ndef_value.specs.declared.limits.TheConstants.{MOST_RECORDS};
 ghost use Rattle.ndef_format.specs.declared.kind.Kind.TheVariants as kinds;
@@ -7,7 +7,7 @@ ghost use Rattle.ndef_format.specs.declared.table.Table.TheVariants as tables;
 ghost use Rattle.ndef_tool.specs.Showing.{Adds, PrintsValue, TellsPoster, action_name, media_name, poster_back, poster_front, size_name};
 
 use crate::quoting::push_named;
-use ndef_program::{push_counted, push_number, push_quoted};
+use ndef_cli::{push_counted, push_number, push_quoted};
 use ndef_types::{Action, SmartPoster, read_poster};
 use ndef_value::{Bytes, NoMemory, Profile};
 use std::alloc::Global;
@@ -75,7 +75,11 @@ fn push_back(
 }
 
 /// Appends what the records of a poster say.
-fn push_told_poster(alloc: Global, line: &mut Bytes, poster: &SmartPoster) -> Result<(), NoMemory>
+fn push_reported_poster(
+    alloc: Global,
+    line: &mut Bytes,
+    poster: &SmartPoster,
+) -> Result<(), NoMemory>
     ensures { OnOk result (Adds line.old line.new (TellsPoster poster.now)) }
 {
     let records = poster.message().len() as u64;
@@ -86,7 +90,7 @@ fn push_told_poster(alloc: Global, line: &mut Bytes, poster: &SmartPoster) -> Re
     push_back(line, poster.action(), poster.size(), media)
 }
 
-/// Appends what is printed of the payload of a smart poster record.
+/// Appends the output for the payload of a smart poster record.
 pub fn push_poster(
     alloc: Global,
     line: &mut Bytes,
@@ -97,5 +101,5 @@ pub fn push_poster(
     ensures { OnOk result (Adds line.old line.new (PrintsValue kinds.SmartPoster profile payload.now)) }
 {
     let poster = read_poster(alloc, payload, profile)?;
-    push_told_poster(alloc, line, &poster)
+    push_reported_poster(alloc, line, &poster)
 }

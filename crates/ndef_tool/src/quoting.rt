@@ -1,8 +1,8 @@
 //! Bytes between quotation marks, after a word.
 ghost use Rattle.std.specs.Prelude.{◌≡◌, ◌++◌, OnOk};
-ghost use Rattle.ndef_program.specs.Quoting.{quoted};
+ghost use Rattle.ndef_cli.specs.Quoting.{quoted};
 
-use ndef_program::push_quoted;
+use ndef_cli::push_quoted;
 use ndef_value::{Bytes, NoMemory};
 
 /// Appends a word, and the bytes after it between quotation marks.

@@ -3,11 +3,11 @@ ghost use Rattle.std.specs.Prelude.{◌≡◌, ◌≤◌, ◌^◌, ℕ, Bool, Li
 ghost use Rattle.ndef_tool.specs.Rules.{rules_of};
 ghost use Rattle.ndef_tool.specs.Sessions.{ChecksNext, HasNext, IsNext, LooksAhead, TakesNext, ViewsNext};
 
+use ndef_cli::Outcome;
 use ndef_lang::RecordLanguage;
 use ndef_message::{
     CheckError, Checked, Read, ReadError, Source, View, check_message, read_message, view,
 };
-use ndef_program::Ending;
 use ndef_value::{Limits, messages_are_bounded};
 use std::alloc::Global;
 
@@ -26,15 +26,15 @@ pub(crate) trait Reading<L: RecordLanguage, S> {
     ghost has_failed: { S → Bool };
 
     /// The next message, after `count`, or how the messages end here.
-    fn read(alloc: Global, limits: Limits, count: u64, from: &mut S) -> Result<Read, Ending>
+    fn read(alloc: Global, limits: Limits, count: u64, from: &mut S) -> Result<Read, Outcome>
         requires { count ≤ MOST }
         ensures next { IsNext (rules_of L.payloads L.reasons limits) count
             (coming from.old) (coming from.new) (has_failed from.new) result }
         ensures taken { TakesNext (λ read. read.taken) (rules_of L.payloads L.reasons limits)
             (coming from.old) (taken from.old) (taken from.new) result };
 
-    /// Checks the next message, after `count`, or says how the messages end here. It allocates no memory.
-    fn check(limits: Limits, count: u64, from: &mut S) -> Result<Checked, Ending>
+    /// Checks the next message, after `count`, or returns how the messages end here. It allocates no memory.
+    fn check(limits: Limits, count: u64, from: &mut S) -> Result<Checked, Outcome>
         requires { count ≤ MOST }
         ensures next { ChecksNext (rules_of L.payloads L.reasons limits) count
             (coming from.old) (coming from.new) (has_failed from.new) result }
@@ -55,26 +55,26 @@ impl<L: RecordLanguage, S: Source> Reading<L, S> for FromSource {
 
     ghost has_failed = { S.has_failed };
 
-    fn read(alloc: Global, limits: Limits, count: u64, from: &mut S) -> Result<Read, Ending> {
+    fn read(alloc: Global, limits: Limits, count: u64, from: &mut S) -> Result<Read, Outcome> {
         // For the proof alone.
         messages_are_bounded();
         look_ahead(count, from)?;
         match read_message::<L, S>(alloc, from, limits) {
             Ok(read) => Ok(read),
-            Err(ReadError::Refused(refusal)) => Err(Ending::Refused(refusal)),
-            Err(ReadError::ReadFault) => Err(Ending::Reading),
-            Err(ReadError::NoMemory) => Err(Ending::Memory),
+            Err(ReadError::Refused(refusal)) => Err(Outcome::Refused(refusal)),
+            Err(ReadError::ReadFault) => Err(Outcome::Reading),
+            Err(ReadError::NoMemory) => Err(Outcome::Memory),
         }
     }
 
-    fn check(limits: Limits, count: u64, from: &mut S) -> Result<Checked, Ending> {
+    fn check(limits: Limits, count: u64, from: &mut S) -> Result<Checked, Outcome> {
         // For the proof alone.
         messages_are_bounded();
         look_ahead(count, from)?;
         match check_message::<L, S>(from, limits) {
             Ok(checked) => Ok(checked),
-            Err(CheckError::Refused(refusal)) => Err(Ending::Refused(refusal)),
-            Err(CheckError::ReadFault) => Err(Ending::Reading),
+            Err(CheckError::Refused(refusal)) => Err(Outcome::Refused(refusal)),
+            Err(CheckError::ReadFault) => Err(Outcome::Reading),
         }
     }
 }
@@ -92,7 +92,7 @@ impl<'a, L: RecordLanguage> Reading<L, &'a [u8]> for FromBytes {
         limits: Limits,
         count: u64,
         from: &mut &'a [u8],
-    ) -> Result<Read, Ending> {
+    ) -> Result<Read, Outcome> {
         let view = view_next::<L>(limits, count, from)?;
         Ok(Read {
             message: view.to_message(alloc)?,
@@ -100,7 +100,7 @@ impl<'a, L: RecordLanguage> Reading<L, &'a [u8]> for FromBytes {
         })
     }
 
-    fn check(limits: Limits, count: u64, from: &mut &'a [u8]) -> Result<Checked, Ending> {
+    fn check(limits: Limits, count: u64, from: &mut &'a [u8]) -> Result<Checked, Outcome> {
         let view = view_next::<L>(limits, count, from)?;
         Ok(Checked {
             records: view.records(),
@@ -110,21 +110,21 @@ impl<'a, L: RecordLanguage> Reading<L, &'a [u8]> for FromBytes {
 }
 
 /// Whether one more message is handled after `count`, where these bytes come next.
-fn go_on(count: u64, bytes: &[u8]) -> Result<(), Ending>
+fn go_on(count: u64, bytes: &[u8]) -> Result<(), Outcome>
     requires { count ≤ MOST }
     ensures { HasNext count bytes.now result }
 {
     if bytes.is_empty() {
-        return Err(Ending::Clean);
+        return Err(Outcome::Clean);
     }
     if count == MOST {
-        return Err(Ending::TooMany);
+        return Err(Outcome::TooMany);
     }
     Ok(())
 }
 
 /// The same of a source, of which nothing is taken.
-fn look_ahead<S: Source>(count: u64, source: &mut S) -> Result<(), Ending>
+fn look_ahead<S: Source>(count: u64, source: &mut S) -> Result<(), Outcome>
     requires { count ≤ MOST }
     ensures ahead { LooksAhead count (S.coming source.old) (S.coming source.new) (S.has_failed source.new) result }
     ensures taken { S.taken source.new ≡ S.taken source.old }
@@ -133,12 +133,12 @@ fn look_ahead<S: Source>(count: u64, source: &mut S) -> Result<(), Ending>
     go_on(count, bytes)
 }
 
-/// Views the next message of the bytes, after `count`, or says how the messages end here.
+/// Views the next message of the bytes, after `count`, or returns how the messages end here.
 fn view_next<'a, L: RecordLanguage>(
     limits: Limits,
     count: u64,
     left: &mut &'a [u8],
-) -> Result<View<'a>, Ending>
+) -> Result<View<'a>, Outcome>
     requires { count ≤ MOST }
     ensures next { ViewsNext (rules_of L.payloads L.reasons limits) count left.old.now left.new.now result }
     ensures taken { TakesNext (λ viewed. viewed.taken) (rules_of L.payloads L.reasons limits)
@@ -155,7 +155,7 @@ fn view_next<'a, L: RecordLanguage>(
         }
         Err(refusal) => {
             *left = &bytes[refusal.at as usize..];
-            Err(Ending::Refused(refusal))
+            Err(Outcome::Refused(refusal))
         }
     }
 }

@@ -1,32 +1,35 @@
 //! The command, over any source and sink.
 ghost use Rattle.std.specs.Prelude.{◌≡◌, false, true, map, string_bytes};
-ghost use Rattle.ndef_program.specs.Endings.{status_of};
-ghost use Rattle.ndef_tool.specs.Output.{ending_line};
-ghost use Rattle.ndef_program.specs.Statuses.{EndsCommand};
+ghost use Rattle.ndef_cli.specs.Outcomes.{status_of};
+ghost use Rattle.ndef_tool.specs.Output.{outcome_line};
+ghost use Rattle.ndef_cli.specs.Statuses.{EndsCommand};
 ghost use Rattle.ndef_tool.specs.Runs.{IsSilent, RunsNdef};
 ghost use Rattle.ndef_tool.specs.Streams.{streams};
 
 use crate::choice::choose;
-use crate::printing::ending_line;
+use crate::printing::outcome_line;
 use crate::session::handle;
+use ndef_cli::{ArgsError, Outcome, Status};
 use ndef_message::{Sink, Source, WriteFault, send};
-use ndef_program::{Ending, Status, WordsError};
 use std::alloc::Global;
 
-/// What is printed where the words don't parse.
+/// The output if the words don't parse.
 const USAGE: &[u8] =
     b"usage: ndef show|check|encode [--hex] [--payload N] [--records N] [--pieces N] \
     [--form short|long] [--chunk N] [--profile strict|standard]\n";
 
 /// The status of an ending.
-fn status_of(ending: Ending) -> Status
-    ensures { result ≡ status_of ending }
+fn status_of(outcome: Outcome) -> Status
+    ensures { result ≡ status_of outcome }
 {
-    match ending {
-        Ending::Clean => Status::Clean,
-        Ending::Refused(_) | Ending::Hex(_) => Status::Refused,
-        Ending::Reading | Ending::Writing | Ending::Memory | Ending::TooMany | Ending::TooLong =>
-            Status::Fault,
+    match outcome {
+        Outcome::Clean => Status::Clean,
+        Outcome::Refused(_) | Outcome::Hex(_) => Status::Refused,
+        Outcome::Reading
+        | Outcome::Writing
+        | Outcome::Memory
+        | Outcome::TooMany
+        | Outcome::TooLong => Status::Fault,
     }
 }
 
@@ -40,10 +43,10 @@ fn end(written: Result<u64, WriteFault>, status: Status) -> Status
     }
 }
 
-/// Does what the words ask for, of which the first is the program's name.
+/// Does what the words request, of which the first is the program's name.
 ///
-/// The messages of the source, or with `--hex` those of the bytes that its text stands for, are
-/// handled one after another to their end, at most 10000 of them: all that is printed of one is made
+/// The messages of the source, or with `--hex` those of the bytes that its text denotes, are
+/// handled one after another to their end, at most 10000 of them: all the output for one is made
 /// before its first byte is written. After a writing fault the status is `Fault`, and a front of the
 /// output is written; nothing of it where the sink had failed before, and the status is `Fault` then too,
 /// unless there was nothing to write.
@@ -61,12 +64,12 @@ pub fn run<S: Source, K: Sink>(
         (streams S.Source K.Sink source.new sink.new) result }
 {
     match choose(alloc, words) {
-        Err(WordsError::NoMemory) => Status::Fault,
-        Err(WordsError::Usage) => end(send(0, USAGE, sink), Status::Usage),
+        Err(ArgsError::NoMemory) => Status::Fault,
+        Err(ArgsError::Usage) => end(send(0, USAGE, sink), Status::Usage),
         Ok(choice) => {
             let session = handle(alloc, &choice, source, sink);
-            let line = ending_line(choice.action, session.at, session.ending);
-            end(send(0, line.as_slice(), sink), status_of(session.ending))
+            let line = outcome_line(choice.action, session.at, session.outcome);
+            end(send(0, line.as_slice(), sink), status_of(session.outcome))
         }
     }
 }

@@ -6,7 +6,7 @@ ghost use Rattle.ndef_message.specs.States.{sink_state};
 ghost use Rattle.ndef_tool.specs.Blocks.{block_text};
 ghost use Rattle.ndef_tool.specs.Chosen.{HasSize};
 ghost use Rattle.ndef_tool.specs.Inputs.{HandlesIn, SilencesIn};
-ghost use Rattle.ndef_program.specs.Endings.{FitsPlace};
+ghost use Rattle.ndef_cli.specs.Outcomes.{FitsPlace};
 ghost use Rattle.ndef_tool.specs.Rules.{typed_rules};
 ghost use Rattle.ndef_tool.specs.Sessions.{Handles, SessionHasTaken, IsSession, PrintsNext, Silences, TakesNext};
 ghost use Rattle.ndef_tool.specs.Streams.{streams};
@@ -15,12 +15,12 @@ use crate::block::{Block, check_block, encode_block, show_block};
 use crate::choice::{Action, Choice};
 use crate::hexadecimal::read_hexadecimal;
 use crate::reading::{FromBytes, FromSource, MOST, Reading};
+use ndef_cli::Outcome;
 use ndef_message::{Sink, Source, WriteFault, send};
 use ndef_nest::Typed;
-use ndef_program::Ending;
 use std::alloc::Global;
 
-/// What is printed of a message.
+/// The output for a message.
 #[derive(Drop)]
 pub(crate) struct Printed {
     block: Block,
@@ -28,15 +28,15 @@ pub(crate) struct Printed {
     taken: u64,
 }
 
-/// How the messages of a source ended.
+/// The end of the messages of a source.
 #[derive(Clone, Copy, Debug)]
 pub struct Session {
     /// The bytes of the messages that were read.
     pub at: u64,
-    pub ending: Ending,
+    pub outcome: Outcome,
 }
 
-/// All that is printed of the next message, after `count` messages of `at` bytes, or how the
+/// The whole output for the next message, after `count` messages of `at` bytes, or how the
 /// messages end here.
 fn print_next<R: Reading<Typed, S>, S>(
     alloc: Global,
@@ -44,7 +44,7 @@ fn print_next<R: Reading<Typed, S>, S>(
     count: u64,
     at: u64,
     from: &mut S,
-) -> Result<Printed, Ending>
+) -> Result<Printed, Outcome>
     requires count { count ≤ MOST }
     requires size { HasSize choice.now.action }
     ensures prints { PrintsNext choice.now count at
@@ -79,7 +79,7 @@ fn print_next<R: Reading<Typed, S>, S>(
     }
 }
 
-/// Writes what is printed of a message.
+/// Writes the output for a message.
 fn send_block<K: Sink>(block: Block, sink: &mut K) -> Result<u64, WriteFault>
     ensures sent { Sent 0 (K.written sink.old) (K.written sink.new) (block_text block) result }
     ensures mark { MarksOf (K.has_failed sink.old) (K.has_failed sink.new) (block_text block) result }
@@ -103,8 +103,8 @@ fn handle_messages<R: Reading<Typed, S>, S, K: Sink>(
         → Silences (IsSession choice.now (R.coming from.old) (R.coming from.new) (R.has_failed from.new)
         (K.has_failed sink.new)) choice.now (sink_state K.Sink sink.old) (sink_state K.Sink sink.new) result }
     ensures taken { SessionHasTaken (typed_rules choice.now.limits) result.at (R.coming from.old)
-        (R.taken from.old) (R.taken from.new) result.ending }
-    ensures room { FitsPlace result.at result.ending }
+        (R.taken from.old) (R.taken from.new) result.outcome }
+    ensures room { FitsPlace result.at result.outcome }
 {
     // For the proof alone.
     choice.limits.profile();
@@ -113,18 +113,18 @@ fn handle_messages<R: Reading<Typed, S>, S, K: Sink>(
     loop {
         let printed = match print_next::<R, S>(alloc, choice, count, at, from) {
             Ok(printed) => printed,
-            Err(ending) => return Session { at, ending },
+            Err(outcome) => return Session { at, outcome },
         };
         count += 1;
         at += printed.taken;
         let Ok(_) = send_block(printed.block, sink) else {
-            let ending = Ending::Writing;
-            return Session { at, ending };
+            let outcome = Outcome::Writing;
+            return Session { at, outcome };
         };
     }
 }
 
-/// Handles the messages of the bytes that the text of the source stands for.
+/// Handles the messages of the bytes that the text of the source denotes.
 fn handle_text<S: Source, K: Sink>(
     alloc: Global,
     choice: &Choice,
@@ -138,14 +138,14 @@ fn handle_text<S: Source, K: Sink>(
     ensures silent { K.has_failed sink.old ≡ true
         → SilencesIn true choice.now (streams S.Source K.Sink source.old sink.old)
         (streams S.Source K.Sink source.new sink.new) result }
-    ensures room { FitsPlace result.at result.ending }
+    ensures room { FitsPlace result.at result.outcome }
 {
     match read_hexadecimal(alloc, source) {
         Ok(bytes) => {
             let mut left = bytes.as_slice();
             handle_messages::<FromBytes, &[u8], K>(alloc, choice, &mut left, sink)
         }
-        Err(ending) => Session { at: 0, ending },
+        Err(outcome) => Session { at: 0, outcome },
     }
 }
 
@@ -163,7 +163,7 @@ pub fn handle<S: Source, K: Sink>(
     ensures silent { K.has_failed sink.old ≡ true
         → SilencesIn choice.now.hex choice.now (streams S.Source K.Sink source.old sink.old)
         (streams S.Source K.Sink source.new sink.new) result }
-    ensures room { FitsPlace result.at result.ending }
+    ensures room { FitsPlace result.at result.outcome }
 {
     if choice.hex {
         handle_text::<S, K>(alloc, choice, source, sink)

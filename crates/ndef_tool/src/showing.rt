@@ -9,13 +9,13 @@ use crate::kinds::kind_of;
 use crate::poster_lines::push_poster;
 use crate::quoting::push_named;
 use crate::value_lines::{push_carrier, push_text, push_uri};
+use ndef_cli::push_counted;
 use ndef_lang::Kind;
-use ndef_program::push_counted;
 use ndef_value::{Bytes, Message, NoMemory, Profile, Record};
 use std::alloc::Global;
 
-/// Appends what is printed of the value for which the payload of a record stands.
-fn push_told(
+/// Appends the output for the value of the payload of a record.
+fn push_reported(
     alloc: Global,
     line: &mut Bytes,
     profile: Profile,
@@ -67,7 +67,7 @@ fn push_record(
     ensures { OnOk result (Adds lines.old lines.new (IsRecordLine profile number item.now)) }
 {
     push_record_front(lines, number, item)?;
-    push_told(alloc, lines, profile, item)?;
+    push_reported(alloc, lines, profile, item)?;
     lines.extend(b"\n")
 }
 

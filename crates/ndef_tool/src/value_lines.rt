@@ -1,13 +1,13 @@
-//! What is printed of texts, URIs and handover carriers.
+//! The output for texts, URIs and handover carriers.
 ghost use Rattle.std.specs.Prelude.{◌≡◌, ◌<◌, ◌^◌, ◌++◌, length, OnOk};
 ghost use Rattle.ndef_format.specs.Handovers.{IsCarrier};
 ghost use Rattle.ndef_format.specs.Texts.{IsText};
 ghost use Rattle.ndef_format.specs.Uris.{IsUri};
 ghost use Rattle.ndef_format.specs.declared.kind.Kind.TheVariants as kinds;
-ghost use Rattle.ndef_tool.specs.Showing.{Adds, PrintsValue, encoding_name, told_carrier, told_text, told_uri};
+ghost use Rattle.ndef_tool.specs.Showing.{Adds, PrintsValue, encoding_name, reported_carrier, reported_text, reported_uri};
 
 use crate::quoting::push_named;
-use ndef_program::push_counted;
+use ndef_cli::push_counted;
 use ndef_types::{Carrier, CarrierParts, Encoding, Text, TextParts, Uri, UriParts};
 use ndef_value::{Bytes, NoMemory, Profile};
 use std::alloc::Global;
@@ -23,8 +23,8 @@ fn encoding_name(encoding: Encoding) -> &'static [u8]
 }
 
 /// Appends the encoding, the language code and the text.
-fn push_told_text(line: &mut Bytes, text: &Text) -> Result<(), NoMemory>
-    ensures { OnOk result (line.new ≡ line.old ++ told_text text.now) }
+fn push_reported_text(line: &mut Bytes, text: &Text) -> Result<(), NoMemory>
+    ensures { OnOk result (line.new ≡ line.old ++ reported_text text.now) }
 {
     line.extend(b" text ")?;
     line.extend(encoding_name(text.encoding()))?;
@@ -32,7 +32,7 @@ fn push_told_text(line: &mut Bytes, text: &Text) -> Result<(), NoMemory>
     push_named(line, b" ", text.text().as_bytes())
 }
 
-/// Appends what is printed of the payload of a text record.
+/// Appends the output for the payload of a text record.
 pub fn push_text(
     alloc: Global,
     line: &mut Bytes,
@@ -43,17 +43,17 @@ pub fn push_text(
     ensures { OnOk result (Adds line.old line.new (PrintsValue kinds.Text profile payload.now)) }
 {
     let text = TextParts::new(payload).to_value(alloc)?;
-    push_told_text(line, &text)
+    push_reported_text(line, &text)
 }
 
 /// Appends the URI.
-fn push_told_uri(line: &mut Bytes, uri: &Uri) -> Result<(), NoMemory>
-    ensures { OnOk result (line.new ≡ line.old ++ told_uri uri.now) }
+fn push_reported_uri(line: &mut Bytes, uri: &Uri) -> Result<(), NoMemory>
+    ensures { OnOk result (line.new ≡ line.old ++ reported_uri uri.now) }
 {
     push_named(line, b" uri ", uri.text().as_bytes())
 }
 
-/// Appends what is printed of the payload of a URI record.
+/// Appends the output for the payload of a URI record.
 pub fn push_uri(
     alloc: Global,
     line: &mut Bytes,
@@ -64,19 +64,19 @@ pub fn push_uri(
     ensures { OnOk result (Adds line.old line.new (PrintsValue kinds.Uri profile payload.now)) }
 {
     let uri = UriParts::new(payload).to_value(alloc)?;
-    push_told_uri(line, &uri)
+    push_reported_uri(line, &uri)
 }
 
 /// Appends the format and the type of a handover carrier, and its number of octets of data.
-fn push_told_carrier(line: &mut Bytes, carrier: &Carrier) -> Result<(), NoMemory>
-    ensures { OnOk result (line.new ≡ line.old ++ told_carrier carrier.now) }
+fn push_reported_carrier(line: &mut Bytes, carrier: &Carrier) -> Result<(), NoMemory>
+    ensures { OnOk result (line.new ≡ line.old ++ reported_carrier carrier.now) }
 {
     push_counted(line, b" carrier format ", u64::from(carrier.format()))?;
     push_named(line, b" type ", carrier.kind().as_slice())?;
     push_counted(line, b" data ", carrier.carried().len() as u64)
 }
 
-/// Appends what is printed of the payload of a handover carrier record.
+/// Appends the output for the payload of a handover carrier record.
 pub fn push_carrier(
     alloc: Global,
     line: &mut Bytes,
@@ -87,5 +87,5 @@ pub fn push_carrier(
     ensures { OnOk result (Adds line.old line.new (PrintsValue kinds.Carrier profile payload.now)) }
 {
     let carrier = CarrierParts::new(payload).to_value(alloc)?;
-    push_told_carrier(line, &carrier)
+    push_reported_carrier(line, &carrier)
 }

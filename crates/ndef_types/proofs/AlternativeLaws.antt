@@ -1,4 +1,4 @@
--- An alternative carrier payload stands for one value, and what is written for a value stands for it.
+-- An alternative carrier payload has one value, and the payload that is written for a value has that value.
 use Rattle.std.proofs.Common.{◌≡◌, ℕ, zero, suc, ◌%◌, ◌<◌, List, [], ◌∷◌, ◌++◌, length, take, drop, refl, sym, ◌∙◌, ap, subst, arith, append_assoc}
 use Rattle.std.proofs.Math.Seq.{take-append_seam, drop-append_seam}
 use Rattle.std.proofs.lemmas.List.{length-take-le}

@@ -1,4 +1,4 @@
--- A handover carrier payload stands for one carrier, and what is written for a carrier stands for it.
+-- A handover carrier payload has one carrier as its value, and the payload written for a carrier has that value.
 use Rattle.std.proofs.Common.{◌≡◌, ℕ, ◌-◌, ◌%◌, ◌<◌, ◌≤◌, List, [], ◌∷◌, length, take, drop, get_or, refl, sym, ◌∙◌, arith}
 use Rattle.std.proofs.Math.Seq.{take-append_seam, drop-append_seam}
 use Rattle.std.proofs.lemmas.List.{take_all, length-take-le}
@@ -14,14 +14,14 @@ use Rattle.ndef_types.proofs.RoundTripLemmas.{round_trip}
 -- ---- reading
 
 -- the octets after two, as a slice shows them
-behind_two : (a b : ℕ) (s : List ℕ) → take (length (a ∷ b ∷ s) - 2) s ≡ s
-behind_two a b s = take_all (length (a ∷ b ∷ s) - 2) s (omega arith)
+after_two : (a b : ℕ) (s : List ℕ) → take (length (a ∷ b ∷ s) - 2) s ≡ s
+after_two a b s = take_all (length (a ∷ b ∷ s) - 2) s (omega arith)
 
 -- the type is within them
 pub type_room : (payload : List ℕ) (n : ℕ) → IsCarrier payload → n ≡ get_or payload 1 0 → n ≤ length (take (length payload - 2) (drop 2 payload))
 type_room [] n h e = absurd h
 type_room (format ∷ []) n h e = absurd h.1
-type_room (format ∷ k ∷ s) n h e = let p = field_parts IsOctet k AreOctets s h.1.1 in rw (behind_two format k s) (omega (arith, p.within))
+type_room (format ∷ k ∷ s) n h e = let p = field_parts IsOctet k AreOctets s h.1.1 in rw (after_two format k s) (omega (arith, p.within))
 
 pub type_fits : (payload : List ℕ) → IsCarrier payload → get_or (drop 1 payload) 0 0 < length (drop 1 payload)
 type_fits [] h = absurd h

@@ -1,4 +1,4 @@
--- A handover error payload stands for one error, and what is written for an error stands for it.
+-- A handover error payload has one error as its value, and the payload that is written for an error has that value.
 use Rattle.std.proofs.Common.{◌≡◌, ℕ, List, [], ◌∷◌, refl, sym, ◌∙◌}
 use Rattle.ndef_format.specs.Handovers.{IsError}
 use Rattle.ndef_format.specs.Reasons.{NoReason}

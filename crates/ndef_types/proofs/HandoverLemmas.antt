@@ -1,4 +1,4 @@
--- The payloads of handovers, and the messages for which they stand.
+-- The payloads of handovers, and the messages that are their values.
 use Rattle.std.proofs.Common.{◌≡◌, ◌≢◌, ℕ, ◌<◌, ◌≤◌, ◌⊎◌, List, [], ◌∷◌, length, drop, map, get_or, sym, ap, ◌∙◌, true, false, subst, inl, inr, Err, arith, refl, Option, Some, None}
 use Rattle.std.specs.Prelude.{◌==◌, IfSome}
 use Rattle.std.specs.List.{AllByRecursion}
@@ -36,9 +36,9 @@ handover_parts Request profile payload f h = let p = request_parts profile paylo
 handover_parts Select profile [] f h = absurd h
 handover_parts Select profile (v ∷ s) f h = (omega arith, h.0.0, h.0.1, h.1)
 
-pub nested_behind : (table : Table) (profile : Profile) (payload bytes : List ℕ) → table ≢ SmartPoster → IsNest table 65535 profile payload → bytes ≡ drop 1 payload → (length bytes == 0) ≡ false
+pub nested_after : (table : Table) (profile : Profile) (payload bytes : List ℕ) → table ≢ SmartPoster → IsNest table 65535 profile payload → bytes ≡ drop 1 payload → (length bytes == 0) ≡ false
     → Nested table 65535 profile (drop 1 payload)
-nested_behind table profile payload bytes f h e some =
+nested_after table profile payload bytes f h e some =
     elim (handover_parts table profile payload f h).3 [
       | inl none ↦ let t : true ≡ false = sym (ap (λ s. length s == 0) (e ∙ none)) ∙ some in absurd (cc)
       | inr n ↦ n
@@ -74,7 +74,7 @@ pub record IsViewed (profile : Profile) (payload : List ℕ) (runs : List Run) :
 pub viewed : (table : Table) (profile : Profile) (payload bytes : List ℕ) (runs : List Run) → table ≢ SmartPoster → IsNest table 65535 profile payload → bytes ≡ drop 1 payload → (length bytes == 0) ≡ false
     → ((table : Table) (rs : List Run) (items : List Item) → IsNestedBy table 65535 profile rs items bytes → (runs ≡ rs) × (map run_record runs ≡ items)) → IsViewed profile payload runs
 viewed table profile payload bytes runs f h e some view =
-    let n = nested_behind table profile payload bytes f h e some in
+    let n = nested_after table profile payload bytes f h e some in
     let v = view table n.0 n.1 (subst (IsNestedBy table 65535 profile n.0 n.1) (sym e) n.2) in
     record {
       some = (handover_parts table profile payload f h).0;

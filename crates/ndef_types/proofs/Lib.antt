@@ -1,5 +1,6 @@
 pub mod AlternativeLaws
 pub mod AlternativeLemmas
+pub mod BuilderFaults
 pub mod CarrierLaws
 pub mod ContentsLemmas
 pub mod EqualityLemmas

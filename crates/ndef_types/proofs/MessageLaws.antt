@@ -1,4 +1,4 @@
--- A payload that holds a message stands for one value, and what is written for a value stands for it.
+-- A payload that holds a message has one value, and the payload that is written for a value has that value.
 use Rattle.std.proofs.Common.{◌≡◌, ◌≢◌, ℕ, ◌-◌, ◌≤◌, ◌⊎◌, true, List, [], ◌∷◌, length, map, refl, sym, ◌∙◌, ap, subst, inl, inr, arith, append-nil, length-append, Option, Some, None}
 use Rattle.std.specs.List.{AllByRecursion}
 use Rattle.ndef_format.specs.Messages.{Item, SpellsBy}

@@ -1,4 +1,4 @@
--- What was written for a value is decoded to it.
+-- The payload that was written for a value is decoded to it.
 use Rattle.std.proofs.Common.{ℕ, List, Ok, Err}
 use Rattle.ndef_types.specs.declared.error.DecodeError.TheVariants as errors
 use Rattle.ndef_types.specs.Decoding.{Payloads, Reasons, Meaning, Writing, OneValue, ValuesRoundTrip}

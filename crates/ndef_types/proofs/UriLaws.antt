@@ -1,4 +1,4 @@
--- A URI payload stands for one URI, and what is written for a URI stands for it.
+-- A URI payload has one URI as its value, and the payload that is written for a URI has that value.
 use Rattle.std.proofs.Common.{◌≡◌, ℕ, ◌^◌, ◌≤◌, Bool, true, List, [], ◌∷◌, ◌++◌, length, take, drop, get_or, refl, sym, ◌∙◌, ap, subst, arith, zero, suc, length-append}
 use Rattle.std.proofs.Math.Seq.{take-append_seam, drop-append_seam}
 use Rattle.std.proofs.lemmas.Bool.{and_parts, ltb-true}
@@ -94,3 +94,7 @@ one_payload uri u =
 
 pub too_long : (uri rest : List ℕ) (code : ℕ) → IsLongest uri code → uri ≡ prefix_of code ++ rest → 2 ^ 32 ≤ length (code ∷ rest) → IsTooLong WritesUri uri
 too_long uri rest code l s m = (code ∷ rest, (l, s), m)
+
+-- where what is written of a URI is too long, this is
+pub is_long : (uri rest : List ℕ) (code : ℕ) → IsLongest uri code → uri ≡ prefix_of code ++ rest → IsTooLong WritesUri uri → 2 ^ 32 ≤ length (code ∷ rest)
+is_long uri rest code l s h = omega (arith, h.2, ap length (same_payload uri h.0 rest code l s h.1))

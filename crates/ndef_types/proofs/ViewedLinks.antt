@@ -14,10 +14,10 @@ use Rattle.ndef_types.specs.Links.{HandoverIsChunked, IsHandoverRecord, is_hando
 abbrev is_one : Run → Bool
 is_one r = is_handover (kind_of (run_record r).tnf (run_record r).kind)
 
-kinds_told : (kind : Kind) → is_handover kind ≡ true → (kind ≡ kinds.Request) ⊎ (kind ≡ kinds.Select)
-kinds_told kinds.Request e = inl refl
-kinds_told kinds.Select e = inr refl
-kinds_told _ e = cc
+kinds_reported : (kind : Kind) → is_handover kind ≡ true → (kind ≡ kinds.Request) ⊎ (kind ≡ kinds.Select)
+kinds_reported kinds.Request e = inl refl
+kinds_reported kinds.Select e = inr refl
+kinds_reported _ e = cc
 
 kinds_untold : (kind : Kind) → is_handover kind ≡ false → (kind ≡ kinds.Request) ⊎ (kind ≡ kinds.Select) → ⊥
 kinds_untold kinds.Request e h = cc
@@ -38,7 +38,7 @@ first_later r runs None n f = (n, f)
 first_later r runs (Some q) n f = (suc f.0, record { at = f.1.at; has = f.1.has; before = (n, f.1.before) })
 
 first_here : (r : Run) (runs : List Run) (b : Bool) → is_one r ≡ b → IsFound runs (find is_one runs) → IsFound (r ∷ runs) (if b then Some r else find is_one runs)
-first_here r runs true e f = (0, record { at = refl; has = kinds_told _ e; before = tt })
+first_here r runs true e f = (0, record { at = refl; has = kinds_reported _ e; before = tt })
 first_here r runs false e f = first_later r runs (find is_one runs) (kinds_untold _ e) f
 
 -- what is found among the runs is the first handover
@@ -65,5 +65,5 @@ found_chunked (r ∷ runs) q e c = by (is_one r) refl e (λ f. found_chunked run
     by : (b : Bool) → is_one r ≡ b → (if b then Some r else find is_one runs) ≡ Some q → (find is_one runs ≡ Some q → HandoverIsChunked runs) → HandoverIsChunked (r ∷ runs)
     by true t f more =
         let p : r ≡ q = cc in
-        record { index = 0; run = r; at = refl; first = record { at = refl; has = kinds_told _ t; before = tt }; chunked = subst (λ x. x.later ≢ []) (sym p) c }
+        record { index = 0; run = r; at = refl; first = record { at = refl; has = kinds_reported _ t; before = tt }; chunked = subst (λ x. x.later ≢ []) (sym p) c }
     by false t f more = chunked_on r runs (kinds_untold _ t) (more f)

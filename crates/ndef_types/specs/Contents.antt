@@ -60,7 +60,7 @@ pub record IsFirstWrong (table : Table) (items : List Item) (index : ℕ) : Type
   pub wrong : IsInOrder table (take index items) item → ⊥
   pub before : AreInOrder table items index
 
--- ---- what bytes stand for
+-- -- the values of bytes
 
 -- NDEF 1.0: the bytes are the message; without bytes there is none
 abbrev pub StandsForMessage : Profile → List ℕ → Option (List Item) → Type 0

@@ -1,4 +1,4 @@
--- When texts and alternative carriers are equal, and what they are hashed by.
+-- The equality of texts and of alternative carriers, and the octets that are hashed for it.
 use Rattle.std.specs.Prelude.{◌≡◌, ◌==◌, ◌↔◌, ◌++◌, Bool, ℕ, List, IsTrue, encode_utf8_all}
 use Rattle.std.specs.Cmp.Lexicographic.{pointwise}
 use Rattle.std.specs.Hash as fed

@@ -1,4 +1,5 @@
 pub mod Alternatives
+pub mod Building
 pub mod Contents
 pub mod ContentsLaws
 pub mod Decoding

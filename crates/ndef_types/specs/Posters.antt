@@ -21,7 +21,7 @@ pub record IsPosterValue (poster : List Item) : Type 0 where
   pub items : AreItems poster
   pub contents : HasContents SmartPoster Strict poster
 
--- ---- what a payload stands for
+-- -- the value of a payload
 
 -- RTD URI 1.0: a reserved code is read as 0
 abbrev pub plain_code : ℕ → ℕ
@@ -66,7 +66,7 @@ MakesPoster items (Err fault) = (fault.message ≡ items)
 
 -- ---- readers
 
--- RTD Smart Poster 1.0: what the first record of the kind says, if there is one
+-- RTD Smart Poster 1.0: the value of the first record of the kind, if there is one
 abbrev pub Says : {V : Type 0} → Kind → (Item → V) → List Item → Option V → Type 0
 Says kind value items result = (i : Option Item) × IsFirstOf (IsOfKind SmartPoster kind) items i
     × (result ≡ option_map value i)
@@ -84,7 +84,7 @@ action_in i = action_of (slice_index i.payload 0)
 abbrev pub size_in : Item → ℕ
 size_in i = from_be_bytes w32 i.payload
 
--- RTD Smart Poster 1.0, URI record: that for which its payload stands
+-- RTD Smart Poster 1.0, URI record: the value of its payload
 abbrev pub IsUriOf : List Item → List ℕ → Type 0
 IsUriOf items uri =
     (i : Item) × IsFirstOf (IsOfKind SmartPoster kinds.Uri) items (Some i)
@@ -99,7 +99,7 @@ is_text _ = false
 abbrev pub titles : List Item → List Item
 titles = filter (λ i. is_text (kind_in SmartPoster i.tnf i.kind))
 
--- the records' payloads stand for the texts, one after another
+-- the records' payloads have the texts as their values, one after another
 abbrev pub StandForTexts : List Item → List TextValue → Type 0
 StandForTexts [] [] = ⊤
 StandForTexts (i ∷ items) (v ∷ values) = StandsForText i.payload v × StandForTexts items values

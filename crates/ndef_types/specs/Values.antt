@@ -1,4 +1,4 @@
--- What payloads stand for, and what is written (NFC Forum, RTD Text 1.0, RTD URI 1.0 and Connection
+-- The values of payloads, and the octets that are written (NFC Forum, RTD Text 1.0, RTD URI 1.0 and Connection
 -- Handover 1.2).
 use Rattle.std.specs.Prelude.{◌≡◌, ℕ, zero, suc, ◌+◌, ◌%◌, ◌<◌, ◌≤◌, Bool, true, false, List, [], ◌∷◌, ◌++◌, length, take, drop, slice_index, IsAscii, encode_utf8_all}
 use Rattle.std.specs.List.{AllByRecursion, flat_map}
@@ -69,7 +69,7 @@ abbrev pub text_payload : TextValue → List ℕ
 text_payload v =
     status_octet v.encoding (length v.language) ∷ (v.language ++ text_octets v.encoding v.text)
 
--- RTD Text 1.0: what is written for a text
+-- RTD Text 1.0: the octets that are written for a text
 abbrev pub WritesText : TextValue → List ℕ → Type 0
 WritesText v payload = payload ≡ text_payload v
 
@@ -104,7 +104,7 @@ error_payload v = v.reason ∷ v.detail
 abbrev pub StandsForError : List ℕ → ErrorValue → Type 0
 StandsForError payload v = payload ≡ error_payload v
 
--- Connection Handover 1.2, Error record: what is written for an error
+-- Connection Handover 1.2, Error record: the octets that are written for an error
 abbrev pub WritesError : ErrorValue → List ℕ → Type 0
 WritesError v payload = payload ≡ error_payload v
 
@@ -136,7 +136,7 @@ StandsForCarrier _ v = ⊥
 abbrev pub carrier_payload : CarrierValue → List ℕ
 carrier_payload v = v.format ∷ length v.kind ∷ (v.kind ++ v.carried)
 
--- Connection Handover 1.2, Handover Carrier record: what is written for a carrier
+-- Connection Handover 1.2, Handover Carrier record: the octets that are written for a carrier
 abbrev pub WritesCarrier : CarrierValue → List ℕ → Type 0
 WritesCarrier v payload = payload ≡ carrier_payload v
 
@@ -198,6 +198,6 @@ abbrev pub ac_payload : AcValue → List ℕ
 ac_payload v = power_code v.power ∷ (counted v.reference
     ++ length v.auxiliary ∷ (flat_map counted v.auxiliary ++ v.rest))
 
--- Connection Handover 1.2, Alternative Carrier record: what is written for a value
+-- Connection Handover 1.2, Alternative Carrier record: the octets that are written for a value
 abbrev pub WritesAc : AcValue → List ℕ → Type 0
 WritesAc v payload = payload ≡ ac_payload v

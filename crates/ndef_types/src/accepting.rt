@@ -12,8 +12,8 @@ use ndef_value::{MOST_PAYLOAD, MOST_RECORDS, Profile, Reason, Refusal};
 /// hold.
 pub(crate) const MOST: usize = MOST_PAYLOAD as usize;
 
-/// Nothing where the payload is in the set of its kind and of at most 4294967295 bytes, else where and
-/// why it is refused.
+/// Returns `Ok` if the payload is in the set of its kind and of at most 4294967295 bytes, else the place and
+/// the reason of its refusal.
 #[inline(always)]
 pub fn accept<L: Language>(kind: Kind, profile: Profile, payload: &[u8]) -> Result<(), Refusal>
     ensures ok { OnOk result ((length payload.now < 2 ^ 32) × L.payloads kind MOST_RECORDS profile payload.now) }
@@ -35,7 +35,7 @@ pub fn accept<L: Language>(kind: Kind, profile: Profile, payload: &[u8]) -> Resu
     }
 }
 
-/// What `accept` answers of the payload of a record that is viewed, whose pieces are judged where they lie.
+/// Returns the result of `accept` for the payload of a record that is viewed, whose pieces are judged in place.
 pub(crate) fn accept_item<L: Language>(
     kind: Kind,
     profile: Profile,

@@ -127,8 +127,8 @@ impl Ac {
         })
     }
 
-    /// The value for which the payload of an alternative carrier record stands: its power state is that
-    /// of the two low bits of the first byte, whose other bits are ignored. `Refused` where the payload
+    /// Returns the value of the payload of an alternative carrier record: its power state is that
+    /// of the two low bits of the first byte, whose other bits are ignored. `Refused` if the payload
     /// isn't in the set of its type or is longer than a payload may be, else `NoMemory`.
     pub fn decode(alloc: Global, payload: &[u8]) -> Result<Ac, DecodeError>
         ensures { DecodesTo IsAlternative (λ s b. NoReason) StandsForAc payload.now result }

@@ -8,7 +8,7 @@ ghost use Rattle.ndef_types.specs.Values.{AcValue, StandForAuxiliary, StandForNa
 use crate::Power;
 use crate::accepting::accept;
 use crate::alternative::Ac;
-use crate::fields::{behind_first, split_counted};
+use crate::fields::{after_first, split_counted};
 use ndef_lang::{Kind, Leaf};
 use ndef_value::{Bytes, Name, NoMemory, Profile, Refusal};
 use std::alloc::Global;
@@ -32,7 +32,7 @@ impl<'a> Model for AlternativeParts<'a> {
     ghost invariant = { λ a. IsAlternative a.payload.now };
 }
 
-/// What is after the first `skipped` of `count` references, each after its length.
+/// Returns the octets after the first `skipped` of `count` references, each after its length.
 fn skip(octets: &[u8], count: u8, skipped: usize) -> &[u8]
     requires references { AreReferences count octets.now }
     requires some { skipped ≤ count }
@@ -47,7 +47,7 @@ fn skip(octets: &[u8], count: u8, skipped: usize) -> &[u8]
     left
 }
 
-/// `count` references, each after its length, and what is after them.
+/// `count` references, each after its length, and the octets after them.
 fn read_names(alloc: Global, count: u8, octets: &[u8]) -> Result<(Vec<Name>, &[u8]), NoMemory>
     requires { AreReferences count octets.now }
     ensures names { IfOk result (λ read. StandForNames count octets.now read.0.items read.1.now) }
@@ -66,13 +66,13 @@ fn read_names(alloc: Global, count: u8, octets: &[u8]) -> Result<(Vec<Name>, &[u
     Ok((names, left))
 }
 
-/// The auxiliary references after their count, and what is after them.
+/// The auxiliary references after their count, and the octets after them.
 fn read_auxiliary(alloc: Global, octets: &[u8]) -> Result<(Vec<Name>, &[u8]), NoMemory>
     requires { AreAuxiliary octets.now }
     ensures auxiliary { IfOk result (λ read. StandForAuxiliary octets.now read.0.items read.1.now) }
     ensures few { IfOk result (λ read. length read.0.items ≤ 255) }
 {
-    read_names(alloc, octets[0], behind_first(octets))
+    read_names(alloc, octets[0], after_first(octets))
 }
 
 impl<'a> AlternativeParts<'a> {
@@ -107,7 +107,7 @@ impl<'a> AlternativeParts<'a> {
     pub fn reference(&self) -> &'a [u8]
         ensures { (v : AcValue) → StandsForAc self.now v → result.now ≡ v.reference }
     {
-        split_counted(behind_first(self.payload)).0
+        split_counted(after_first(self.payload)).0
     }
 
     /// The octets after the carrier reference.
@@ -115,7 +115,7 @@ impl<'a> AlternativeParts<'a> {
         ensures auxiliary { AreAuxiliary result.now }
         ensures stand { (v : AcValue) → StandsForAc self.now v → StandForAuxiliary result.now v.auxiliary v.rest }
     {
-        split_counted(behind_first(self.payload)).1
+        split_counted(after_first(self.payload)).1
     }
 
     /// The number of auxiliary references, 0 to 255.
@@ -136,7 +136,7 @@ impl<'a> AlternativeParts<'a> {
         if index >= usize::from(octets[0]) {
             return None;
         }
-        let left = skip(behind_first(octets), octets[0], index);
+        let left = skip(after_first(octets), octets[0], index);
         Some(split_counted(left).0)
     }
 
@@ -145,7 +145,7 @@ impl<'a> AlternativeParts<'a> {
         ensures { (v : AcValue) → StandsForAc self.now v → result.now ≡ v.rest }
     {
         let octets = self.after_reference();
-        skip(behind_first(octets), octets[0], usize::from(octets[0]))
+        skip(after_first(octets), octets[0], usize::from(octets[0]))
     }
 
     /// A value of copies of the parts, or `NoMemory`.
@@ -153,7 +153,7 @@ impl<'a> AlternativeParts<'a> {
         ensures { IfOk result (StandsForAc self.now) }
     {
         let power = Power::of(self.payload[0]);
-        let (reference, octets) = split_counted(behind_first(self.payload));
+        let (reference, octets) = split_counted(after_first(self.payload));
         let Ok(reference) = Name::from_slice(alloc, reference) else {
             return Err(NoMemory);
         };

@@ -6,7 +6,7 @@ ghost use Rattle.ndef_types.specs.Decoding.{DecodesTo, ParsesTo};
 ghost use Rattle.ndef_types.specs.Values.{CarrierValue, StandsForCarrier, IsCarrierValue, carrier_payload};
 
 use crate::accepting::{MOST, accept};
-use crate::fields::{behind_first, split_counted};
+use crate::fields::{after_first, split_counted};
 use crate::{DecodeError, EncodeError};
 use ndef_lang::{Kind, Leaf};
 use ndef_value::{Bytes, Name, NoMemory, Profile, Refusal};
@@ -84,14 +84,14 @@ impl<'a> CarrierParts<'a> {
     pub fn kind(&self) -> &'a [u8]
         ensures { (v : CarrierValue) → StandsForCarrier self.now v → result.now ≡ v.kind }
     {
-        split_counted(behind_first(self.payload)).0
+        split_counted(after_first(self.payload)).0
     }
 
     /// The carrier data, such as what configures the carrier.
     pub fn carried(&self) -> &'a [u8]
         ensures { (v : CarrierValue) → StandsForCarrier self.now v → result.now ≡ v.carried }
     {
-        split_counted(behind_first(self.payload)).1
+        split_counted(after_first(self.payload)).1
     }
 
     /// A carrier of copies of the parts, or `NoMemory`.
@@ -126,8 +126,8 @@ impl Carrier {
         }
     }
 
-    /// The carrier for which the payload of a handover carrier record stands: its format is that of the
-    /// three low bits of the first byte, whose other bits are ignored. `Refused` where the payload isn't
+    /// Returns the carrier of the payload of a handover carrier record: its format is that of the
+    /// three low bits of the first byte, whose other bits are ignored. `Refused` if the payload isn't
     /// in the set of its type or is longer than a payload may be, else `NoMemory`.
     pub fn decode(alloc: Global, payload: &[u8]) -> Result<Carrier, DecodeError>
         ensures { DecodesTo IsCarrier (λ s b. NoReason) StandsForCarrier payload.now result }

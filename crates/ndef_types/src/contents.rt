@@ -27,7 +27,7 @@ pub(crate) fn first_of(table: Table, records: &[Record], kind: Kind) -> Option<&
     None
 }
 
-/// Whether a record of the kind may stand after others.
+/// Whether a record of the kind may follow others.
 fn may_follow(table: Table, before: &[Record], kind: Kind) -> bool
     ensures { IsTrue result ↔ MayFollow table before.now kind }
 {
@@ -49,7 +49,7 @@ fn is_payload(kind: Kind, payload: &[u8]) -> bool
         || refusal_of::<Leaf>(kind, 1, Profile::Strict, payload).is_none()
 }
 
-/// Whether a record has a payload of its kind, as a strict reader takes it, and may stand after
+/// Whether a record has a payload of its kind, as a strict reader takes it, and may follow
 /// others.
 fn is_in_order(table: Table, before: &[Record], item: &Record) -> bool
     ensures { IsTrue result ↔ IsInOrder table before.now item.now }

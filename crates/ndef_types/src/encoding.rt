@@ -1,4 +1,4 @@
-//! How the text of a Text record is encoded.
+//! The encodings of the text of a Text record.
 
 /// The encoding of a text (RTD Text 1.0, status octet).
 #[derive(Clone, Copy, Debug, PartialEq, Eq, Hash)]

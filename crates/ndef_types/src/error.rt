@@ -1,4 +1,4 @@
-//! Why a payload isn't decoded, or a value isn't encoded.
+//! The reason why a payload isn't decoded, or a value isn't encoded.
 ghost use Rattle.std.specs.Prelude.{◌≡◌};
 ghost use Rattle.ndef_types.specs.declared.error.DecodeError.TheVariants as decode_errors;
 ghost use Rattle.ndef_types.specs.declared.error.EncodeError.TheVariants as encode_errors;
@@ -6,7 +6,7 @@ ghost use Rattle.ndef_types.specs.declared.error.EncodeError.TheVariants as enco
 use ndef_value::{NoMemory, Refusal};
 use thiserror::Error;
 
-/// Why no value was decoded, in the order in which the reasons are tried.
+/// The reason why no value was decoded, in the order in which the reasons are tried.
 #[derive(Clone, Copy, Debug, Drop, PartialEq, Eq, Hash, Error)]
 pub enum DecodeError {
     /// The payload isn't in the set of its type, or has more than 4294967295 bytes. The place is in the
@@ -35,7 +35,7 @@ impl From<NoMemory> for DecodeError {
     }
 }
 
-/// Why no payload was made, in the order in which the reasons are tried.
+/// The reason why no payload was made, in the order in which the reasons are tried.
 #[derive(Clone, Copy, Debug, Drop, PartialEq, Eq, Hash, Error)]
 pub enum EncodeError {
     /// It would have more than 4294967295 bytes, the most that PAYLOAD_LENGTH can hold (NDEF 1.0).

@@ -7,7 +7,7 @@ ghost use Rattle.ndef_types.specs.Decoding.{DecodesTo, ParsesTo};
 ghost use Rattle.ndef_types.specs.Values.{ErrorValue, StandsForError, IsErrorValue, error_payload};
 
 use crate::accepting::{MOST, accept};
-use crate::fields::behind_first;
+use crate::fields::after_first;
 use crate::{DecodeError, EncodeError};
 use ndef_lang::{Kind, Leaf};
 use ndef_value::{Bytes, NoMemory, Profile, Refusal};
@@ -15,7 +15,7 @@ use std::alloc::Global;
 use std::marker::Model;
 use thiserror::Error;
 
-/// Why a handover fails (Connection Handover 1.2, Error record): a reason and its data, which is one
+/// The reason why a handover fails (Connection Handover 1.2, Error record): a reason and its data, which is one
 /// byte for the reasons 1 and 3, four bytes for 2, and any bytes for all others.
 #[derive(Debug, Drop, PartialEq, Eq, Hash)]
 pub struct HandoverError {
@@ -80,12 +80,12 @@ impl<'a> ErrorParts<'a> {
         self.payload[0]
     }
 
-    /// The data, as long as the reason asks.
+    /// The data, of the length that the reason demands.
     pub fn detail(&self) -> &'a [u8]
         ensures value { (v : ErrorValue) → StandsForError self.now v → result.now ≡ v.detail }
         ensures data { IsErrorData (slice_index self.now 0) result.now }
     {
-        behind_first(self.payload)
+        after_first(self.payload)
     }
 
     /// An error of a copy of the data, or `NoMemory`.
@@ -103,10 +103,10 @@ impl<'a> ErrorParts<'a> {
     }
 }
 
-/// Why a reason and some data make no handover error, in the order in which the reasons are tried.
+/// The reason why a reason and some data make no handover error, in the order in which the reasons are tried.
 #[derive(Clone, Copy, Debug, Drop, PartialEq, Eq, Hash, Error)]
 pub enum DetailError {
-    /// The data isn't as long as the reason asks.
+    /// The data doesn't have the length that the reason demands.
     #[error("the data does not go with the reason")]
     BadShape,
     /// An allocation failed.
@@ -122,7 +122,7 @@ impl From<NoMemory> for DetailError {
     }
 }
 
-/// Whether the data are as long as the reason asks: one octet for 1 and 3, four for 2, and any number for
+/// Whether the data have the length that the reason demands: one octet for 1 and 3, four for 2, and any number for
 /// all others.
 pub fn goes_with(reason: u8, detail: &[u8]) -> bool
     ensures { IsTrue result ↔ IsErrorData reason detail.now }
@@ -147,7 +147,7 @@ impl HandoverError {
         Ok(HandoverError { reason, detail })
     }
 
-    /// The error for which the payload of an error record stands. `Refused` where the payload isn't in
+    /// Returns the error of the payload of an error record. `Refused` if the payload isn't in
     /// the set of its type or is longer than a payload may be, else `NoMemory`.
     pub fn decode(alloc: Global, payload: &[u8]) -> Result<HandoverError, DecodeError>
         ensures { DecodesTo IsError (λ s b. NoReason) StandsForError payload.now result }
@@ -178,7 +178,7 @@ impl HandoverError {
         self.reason
     }
 
-    /// The data, as long as the reason asks.
+    /// The data, of the length that the reason demands.
     pub fn detail(&self) -> &[u8]
         ensures value { result.now ≡ self.now.detail }
         ensures error { IsErrorValue self.now }

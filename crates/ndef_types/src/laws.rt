@@ -10,14 +10,14 @@ ghost use Rattle.ndef_types.specs.Decoding.{AreExact, EachHasValue, OnePayload, 
 ghost use Rattle.ndef_types.specs.Equality.{EqualAlternativesAreSame, EqualTextsAreSame};
 ghost use Rattle.ndef_types.specs.Values.{StandsForText, IsTextValue, WritesText, StandsForUri, WritesUri, StandsForError, IsErrorValue, WritesError, StandsForCarrier, IsCarrierValue, WritesCarrier, StandsForAc, IsAcValue, WritesAc};
 
-/// A payload of a Text record stands for one text, and what `Text::encode` writes is such a payload
+/// A payload of a Text record has one text as its value, and what `Text::encode` writes is such a payload
 /// and is decoded to the text that was written.
 pub fn texts_are_exact()
     ensures exact { AreExact IsText TextReason StandsForText IsTextValue WritesText }
     ensures written { WritesPayloads IsText IsTextValue WritesText }
 {}
 
-/// A payload of a URI record stands for one URI, and what `Uri::encode` writes is such a payload and is
+/// A payload of a URI record has one URI as its value, and what `Uri::encode` writes is such a payload and is
 /// decoded, for either profile, to the URI that was written.
 pub fn uris_are_exact()
     ensures one { (profile : Profile) → OneValue (IsUri profile) StandsForUri }
@@ -28,21 +28,21 @@ pub fn uris_are_exact()
         ValuesRoundTrip (IsUri profile) (UriReason profile) StandsForUri IsUtf8 WritesUri }
 {}
 
-/// A payload of a handover error record stands for one error, and what `HandoverError::encode` writes
+/// A payload of a handover error record has one error as its value, and what `HandoverError::encode` writes
 /// is such a payload and is decoded to the error that was written.
 pub fn errors_are_exact()
     ensures exact { AreExact IsError (λ s b. NoReason) StandsForError IsErrorValue WritesError }
     ensures written { WritesPayloads IsError IsErrorValue WritesError }
 {}
 
-/// A payload of a handover carrier record stands for one carrier, and what `Carrier::encode` writes is
+/// A payload of a handover carrier record has one carrier as its value, and what `Carrier::encode` writes is
 /// such a payload and is decoded to the carrier that was written.
 pub fn carriers_are_exact()
     ensures exact { AreExact IsCarrier (λ s b. NoReason) StandsForCarrier IsCarrierValue WritesCarrier }
     ensures written { WritesPayloads IsCarrier IsCarrierValue WritesCarrier }
 {}
 
-/// A payload of an alternative carrier record stands for one value, and what `Ac::encode` writes is such
+/// A payload of an alternative carrier record has one value, and what `Ac::encode` writes is such
 /// a payload and is decoded to the value that was written.
 pub fn alternatives_are_exact()
     ensures exact { AreExact IsAlternative (λ s b. NoReason) StandsForAc IsAcValue WritesAc }

@@ -1,28 +1,32 @@
 //! Typed payloads: texts, URIs, smart posters and handovers (NFC Forum, RTD Text 1.0, RTD URI 1.0, RTD
 //! Smart Poster 1.0 and Connection Handover 1.2).
 //!
-//! Where to look:
+//! The files:
 //!
 //! - `text.rt`, `uri.rt`, `smart_poster.rt`, `request.rt`, `select.rt`, `alternative.rt`, `carrier.rt`,
 //!   `handover_error.rt`: a value each. Those of one record, such as a text, have a type of their parts
 //!   beside them, `TextParts`: slices of the payload, without memory. `alternative_parts.rt`: those of
 //!   an alternative carrier.
-//! - `specs/Values.antt`, `specs/Posters.antt`, `specs/Handovers.antt`: which payload stands for which
-//!   value.
-//! - `specs/Decoding.antt`: what is answered, and the laws. `accepting.rt`: the check that each decoder
+//! - `specs/Values.antt`, `specs/Posters.antt`, `specs/Handovers.antt`: the value of each
+//!   payload.
+//! - `specs/Decoding.antt`: the answers, and the laws. `accepting.rt`: the check that each decoder
 //!   begins with.
 //! - `specs/Prefixes.antt`: the prefixes of URIs.
-//! - `contents.rt`, `specs/Contents.antt`: which record of a nested message is wrong. `nested.rt`:
+//! - `contents.rt`, `specs/Contents.antt`: the wrong record of a nested message. `nested.rt`:
 //!   messages in payloads.
 //! - `link.rt`, `specs/Links.antt`: the carriers of a message. `ids.rt`, `specs/Ids.antt`: its records,
-//!   found by their ids. `specs/Equality.antt`: when values are
-//!   equal.
+//!   found by their ids. `specs/Equality.antt`: the equality of
+//!   values.
+//! - `builder.rt`, `build_error.rt`, `specs/Building.antt`: smart posters and handovers, made record by
+//!   record.
 #![tactic(auto)]
 
 mod accepting;
 mod action;
 mod alternative;
 mod alternative_parts;
+mod build_error;
+mod builder;
 mod carrier;
 mod contents;
 mod encoding;
@@ -49,6 +53,8 @@ pub use accepting::accept;
 pub use action::Action;
 pub use alternative::{Ac, TooMany};
 pub use alternative_parts::AlternativeParts;
+pub use build_error::BuildError;
+pub use builder::Builder;
 pub use carrier::{Carrier, CarrierParts};
 pub use contents::is_kind;
 pub use encoding::Encoding;

@@ -19,7 +19,7 @@ ghost use Rattle.ndef_types.specs.Links.{AreLinks, FindsLinks, HandoverIsChunked
 
 use crate::accepting::{accept, accept_item};
 use crate::contents::is_kind;
-use crate::fields::behind_first;
+use crate::fields::after_first;
 use crate::ids::{Ids, Outer, index_of};
 use crate::nested::view_nested;
 use crate::{Ac, AlternativeParts};
@@ -190,7 +190,7 @@ fn read_links<'a, O: Outer>(
     ensures value { IfOk result (StandsForLinks profile (O.items outer.now) payload.now) }
     ensures memory { OnErr result (HasCarriers profile payload.now) }
 {
-    let bytes = behind_first(payload);
+    let bytes = after_first(payload);
     if bytes.is_empty() {
         return Ok(Links::new(alloc));
     }

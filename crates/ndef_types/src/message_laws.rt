@@ -7,7 +7,7 @@ ghost use Rattle.ndef_types.specs.Posters.{IsPosterValue, StandsForPoster, Write
 use ndef_nest::strict_contents_are_read;
 use ndef_value::{canonical_is_a_spelling, one_meaning};
 
-/// A payload of a Smart Poster record stands for one poster, and what `SmartPoster::encode` writes is
+/// A payload of a Smart Poster record has one poster as its value, and what `SmartPoster::encode` writes is
 /// decoded, for either profile, to the poster that was written.
 pub fn posters_are_exact()
     ensures { NestsAreExact SmartPoster StandsForPoster IsPosterValue WritesPoster }
@@ -17,7 +17,7 @@ pub fn posters_are_exact()
     strict_contents_are_read();
 }
 
-/// A payload of a Handover Request record stands for one request, and what `Request::encode` writes is
+/// A payload of a Handover Request record has one request as its value, and what `Request::encode` writes is
 /// decoded, for either profile, to the request that was written.
 pub fn requests_are_exact()
     ensures { NestsAreExact Request StandsForRequest IsRequestValue WritesRequest }
@@ -27,7 +27,7 @@ pub fn requests_are_exact()
     strict_contents_are_read();
 }
 
-/// A payload of a Handover Select record stands for one select, and what `Select::encode` writes is
+/// A payload of a Handover Select record has one select as its value, and what `Select::encode` writes is
 /// decoded, for either profile, to the select that was written.
 pub fn selects_are_exact()
     ensures { NestsAreExact Select StandsForSelect IsSelectValue WritesSelect }

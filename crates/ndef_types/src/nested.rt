@@ -54,7 +54,7 @@ pub(crate) fn read_nested(
     view_nested(bytes, profile).to_message(alloc)
 }
 
-/// The nested message that the bytes spell, and none where there are no bytes. Only memory may fail.
+/// The nested message that the bytes spell, and None if there are no bytes. Only memory may fail.
 pub(crate) fn read_optional(
     alloc: Global,
     bytes: &[u8],
@@ -74,7 +74,7 @@ pub(crate) fn read_optional(
 }
 
 /// An octet, and the canonical spelling of a message after it.
-pub(crate) fn encode_behind(
+pub(crate) fn encode_after(
     alloc: Global,
     octet: u8,
     message: &Message,

@@ -1,4 +1,4 @@
-//! Why a message isn't one of a handover.
+//! The reason why a message isn't one of a handover.
 
 use ndef_value::Message;
 use thiserror::Error;

@@ -11,8 +11,8 @@ ghost use Rattle.ndef_types.specs.Handovers.{IsCollisionOf, MakesRequest, Stands
 
 use crate::accepting::accept;
 use crate::contents::first_wrong;
-use crate::fields::behind_first;
-use crate::nested::{encode_behind, read_nested};
+use crate::fields::after_first;
+use crate::nested::{encode_after, read_nested};
 use crate::{DecodeError, EncodeError, NotHandover};
 use ndef_lang::Kind;
 use ndef_nest::{Nest, Table, strict_contents_are_read};
@@ -44,7 +44,7 @@ impl Model for Request {
     ghost inverse = { λ v. record { minor = v.minor; message = v.items } };
 }
 
-/// The request for which a payload of a Handover Request record stands, or `NoMemory`. The payload is not checked
+/// Returns the request of a payload of a Handover Request record, or `NoMemory`. The payload is not checked
 /// again.
 pub fn read_request(alloc: Global, payload: &[u8], profile: Profile) -> Result<Request, NoMemory>
     requires { IsNest tables.Request MOST_RECORDS profile payload.now }
@@ -53,7 +53,7 @@ pub fn read_request(alloc: Global, payload: &[u8], profile: Profile) -> Result<R
     // For the proof alone.
     strict_contents_are_read();
     let version = payload[0];
-    let message = read_nested(alloc, behind_first(payload), profile)?;
+    let message = read_nested(alloc, after_first(payload), profile)?;
     Ok(Request {
         minor: version - 0x10,
         message,
@@ -74,7 +74,7 @@ impl Request {
         }
     }
 
-    /// The request for which the payload of a Handover Request record stands, as a strict reader
+    /// Returns the request of the payload of a Handover Request record, as a strict reader
     /// takes it: a version octet and a message of at most 65535 records, each in one piece. Any other
     /// payload is `Refused` at the first byte after which no payload of its length is one. Else
     /// `NoMemory`.
@@ -85,7 +85,7 @@ impl Request {
         Request::decode_as(alloc, payload, Profile::Strict)
     }
 
-    /// The request for which the payload of a Handover Request record stands, as a reader of the
+    /// Returns the request of the payload of a Handover Request record, as a reader of the
     /// profile takes it. Refusals as for `decode`.
     pub fn decode_as(
         alloc: Global,
@@ -106,7 +106,7 @@ impl Request {
         ensures ok { IfOk result (WritesRequest self.now) }
         ensures too_long { IsErrOf result EncodeError.TooLong ↔ (2 ^ 32 ≤ 1 + length (canonical self.now.items)) }
     {
-        encode_behind(alloc, 0x10 + self.minor, &self.message)
+        encode_after(alloc, 0x10 + self.minor, &self.message)
     }
 
     /// The minor version, 0 to 15.

@@ -10,8 +10,8 @@ ghost use Rattle.ndef_types.specs.Handovers.{MakesSelect, StandsForSelect, Write
 
 use crate::accepting::accept;
 use crate::contents::first_wrong;
-use crate::fields::behind_first;
-use crate::nested::{encode_behind, read_optional};
+use crate::fields::after_first;
+use crate::nested::{encode_after, read_optional};
 use crate::{DecodeError, EncodeError, NotHandover};
 use ndef_lang::Kind;
 use ndef_nest::{Nest, Table, strict_contents_are_read};
@@ -42,7 +42,7 @@ impl Model for Select {
     ghost inverse = { λ v. record { minor = v.minor; message = v.message } };
 }
 
-/// The select for which a payload of a Handover Select record stands, or `NoMemory`. The payload is not checked
+/// Returns the select of a payload of a Handover Select record, or `NoMemory`. The payload is not checked
 /// again.
 pub fn read_select(alloc: Global, payload: &[u8], profile: Profile) -> Result<Select, NoMemory>
     requires { IsNest tables.Select MOST_RECORDS profile payload.now }
@@ -51,7 +51,7 @@ pub fn read_select(alloc: Global, payload: &[u8], profile: Profile) -> Result<Se
     // For the proof alone.
     strict_contents_are_read();
     let version = payload[0];
-    let message = read_optional(alloc, behind_first(payload), profile)?;
+    let message = read_optional(alloc, after_first(payload), profile)?;
     Ok(Select {
         minor: version - 0x10,
         message,
@@ -82,7 +82,7 @@ impl Select {
         }
     }
 
-    /// The select for which the payload of a Handover Select record stands, as a strict reader takes
+    /// Returns the select of the payload of a Handover Select record, as a strict reader takes
     /// it: a version octet alone, or with a message of at most 65535 records, each in one piece. Any
     /// other payload is `Refused` at the first byte after which no payload of its length is one. Else
     /// `NoMemory`.
@@ -93,7 +93,7 @@ impl Select {
         Select::decode_as(alloc, payload, Profile::Strict)
     }
 
-    /// The select for which the payload of a Handover Select record stands, as a reader of the
+    /// Returns the select of the payload of a Handover Select record, as a reader of the
     /// profile takes it. Refusals as for `decode`.
     pub fn decode_as(alloc: Global, payload: &[u8], profile: Profile) -> Result<Select, DecodeError>
         ensures { DecodesTo (IsNest tables.Select MOST_RECORDS profile) (NestReason tables.Select MOST_RECORDS profile)
@@ -113,7 +113,7 @@ impl Select {
     {
         let version = 0x10 + self.minor;
         match &self.message {
-            Some(message) => encode_behind(alloc, version, message),
+            Some(message) => encode_after(alloc, version, message),
             None => Ok(Bytes::from_slice(alloc, &[version])?),
         }
     }

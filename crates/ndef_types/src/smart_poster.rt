@@ -125,7 +125,7 @@ fn plain_for(alloc: Global, message: Message, profile: Profile) -> Result<Messag
     }
 }
 
-/// The poster for which a payload of a smart poster record stands, or `NoMemory`. The payload is not checked again.
+/// Returns the poster of a payload of a smart poster record, or `NoMemory`. The payload is not checked again.
 pub fn read_poster(alloc: Global, payload: &[u8], profile: Profile) -> Result<SmartPoster, NoMemory>
     requires { IsNest tables.SmartPoster MOST_RECORDS profile payload.now }
     ensures { IfOk result (StandsForPoster profile payload.now) }
@@ -156,7 +156,7 @@ impl SmartPoster {
         }
     }
 
-    /// The poster for which the payload of a Smart Poster record stands, as a strict reader takes it:
+    /// Returns the poster of the payload of a Smart Poster record, as a strict reader takes it:
     /// a message of at most 65535 records, each in one piece. Any other payload is `Refused` at the first
     /// byte after which no payload of its length is one. Else `NoMemory`.
     pub fn decode(alloc: Global, payload: &[u8]) -> Result<SmartPoster, DecodeError>
@@ -166,7 +166,7 @@ impl SmartPoster {
         SmartPoster::decode_as(alloc, payload, Profile::Strict)
     }
 
-    /// The poster for which the payload of a Smart Poster record stands, as a reader of the profile
+    /// Returns the poster of the payload of a Smart Poster record, as a reader of the profile
     /// takes it. A reserved code of its URI is 0 in the poster. Refusals as for `decode`.
     pub fn decode_as(
         alloc: Global,
@@ -202,7 +202,7 @@ impl SmartPoster {
         &self.message
     }
 
-    /// What the first recommended action record says; none without one.
+    /// Returns the action of the first recommended action record; None without one.
     pub fn action(&self) -> Option<Action>
         ensures { Says kinds.Action action_in self.now result }
     {
@@ -210,7 +210,7 @@ impl SmartPoster {
         Some(Action::of(item.payload()[0]))
     }
 
-    /// The size in bytes of what the poster refers to, 0 to 4294967295, as the first size record gives it; none without
+    /// The size in bytes of the object of the poster, 0 to 4294967295, as the first size record gives it; none without
     /// one.
     pub fn size(&self) -> Option<u32>
         ensures { Says kinds.Size size_in self.now result }
@@ -231,7 +231,7 @@ impl SmartPoster {
         }
     }
 
-    /// The media type of what the poster refers to, as the first type record gives it; none without
+    /// The media type of the object to which the poster refers, as the first type record gives it; none without
     /// one, and then no memory is allocated. Else `NoMemory`.
     pub fn media(&self, alloc: Global) -> Result<Option<Bytes>, NoMemory>
         ensures value { IfOk result (Says kinds.MediaType (λ i. i.payload) self.now) }

@@ -9,7 +9,7 @@ ghost use Rattle.ndef_types.specs.Decoding.{DecodesTo, ParsesTo};
 ghost use Rattle.ndef_types.specs.Values.{StandsForText, SpellsText, IsTextValue, is_utf16, language_octets, encoded_octets, status_octet, text_octets, text_payload};
 
 use crate::accepting::{MOST, accept};
-use crate::fields::behind_first;
+use crate::fields::after_first;
 use crate::utf16::{push_text, read_utf16, units_len};
 use crate::{DecodeError, EncodeError, Encoding};
 use ndef_lang::{Kind, Leaf};
@@ -41,7 +41,7 @@ impl Model for Text {
         (record { encoding = t.encoding; language = string_bytes t.language; text = chars (string_bytes t.text) }) };
 }
 
-/// Why some parts make no text, in the order in which the reasons are tried.
+/// The reason why some parts make no text, in the order in which the reasons are tried.
 #[derive(Clone, Copy, Debug, Drop, PartialEq, Eq, Hash, Error)]
 pub enum TextError {
     /// A language code of more than 63 bytes.
@@ -121,7 +121,7 @@ impl<'a> TextParts<'a> {
         }
     }
 
-    /// How the text is encoded: bit 7 of the status octet.
+    /// The encoding of the text: bit 7 of the status octet.
     pub fn encoding(&self) -> Encoding
         ensures { is_wide (slice_index self.now 0) ≡ is_utf16 result }
     {
@@ -138,7 +138,7 @@ impl<'a> TextParts<'a> {
         ensures text { result.1.now ≡ encoded_octets self.now }
         ensures is_text { IsText self.now }
     {
-        behind_first(self.payload).split_at(usize::from(self.payload[0] % 64))
+        after_first(self.payload).split_at(usize::from(self.payload[0] % 64))
     }
 
     /// The language code, 0 to 63 bytes of ASCII.
@@ -159,14 +159,14 @@ impl<'a> TextParts<'a> {
         self.split().1
     }
 
-    /// The text where it is in UTF-8, and none where it is in UTF-16.
+    /// The text where it is in UTF-8, and None if it is in UTF-16.
     pub fn utf8(&self) -> Option<&'a str>
         ensures utf16 { IfNone result (is_wide (slice_index self.now 0) ≡ true) }
         ensures text { IfSome result (λ text. text.now ≡ encoded_octets self.now) }
         ensures utf8 { IfSome result (λ _. is_wide (slice_index self.now 0) ≡ false) }
     {
         match self.encoding() {
-            // The octets are UTF-8, as the invariant says.
+            // The octets are UTF-8, by the invariant.
             Encoding::Utf8 => Some(unsafe { str::from_utf8_unchecked(self.octets()) }),
             Encoding::Utf16 => None,
         }
@@ -206,6 +206,15 @@ fn octets_fit(encoding: Encoding, text: &str, most: usize) -> bool
         Encoding::Utf8 => text.len() <= most,
         Encoding::Utf16 => most >= 2 && units_len(text) <= (most as u64 - 2) / 2,
     }
+}
+
+/// Whether the payload of a text of these parts has at most 4294967295 bytes.
+pub(crate) fn text_fits(encoding: Encoding, language: &str, text: &str) -> bool
+    requires { length language.now ≤ 63 }
+    ensures { IsTrue result ↔ (length (text_payload
+        (record { encoding = encoding; language = language.now; text = chars text.now })) < 2 ^ 32) }
+{
+    octets_fit(encoding, text, MOST - 1 - language.len())
 }
 
 /// Appends the octets of a text.
@@ -251,9 +260,9 @@ impl Text {
         })
     }
 
-    /// The text for which the payload of a Text record stands. A UTF-16 text may be big-endian or
+    /// Returns the text of the payload of a Text record. A UTF-16 text may be big-endian or
     /// little-endian after its byte order mark, or big-endian without one; the mark is no part of the
-    /// text. `Refused` where the payload isn't in the set of its type or is longer than a payload may
+    /// text. `Refused` if the payload isn't in the set of its type or is longer than a payload may
     /// be, else `NoMemory`.
     pub fn decode(alloc: Global, payload: &[u8]) -> Result<Text, DecodeError>
         ensures { DecodesTo IsText TextReason StandsForText payload.now result }
@@ -267,13 +276,13 @@ impl Text {
         ensures ok { IfOk result (λ payload. payload ≡ text_payload self.now) }
         ensures too_long { IsErrOf result EncodeError.TooLong ↔ (2 ^ 32 ≤ length (text_payload self.now)) }
     {
-        if !self.fits() {
+        if !text_fits(self.encoding, &self.language, &self.text) {
             return Err(EncodeError::TooLong);
         }
         Ok(self.payload(alloc)?)
     }
 
-    /// How the text is encoded in its payload.
+    /// The encoding of the text in its payload.
     pub fn encoding(&self) -> Encoding
         ensures value { result ≡ self.now.encoding }
         ensures text { IsTextValue self.now }
@@ -295,14 +304,6 @@ impl Text {
         ensures text { IsTextValue self.now }
     {
         self.text.as_str()
-    }
-
-    /// Whether the payload has at most 4294967295 bytes.
-    fn fits(&self) -> bool
-        ensures { IsTrue result ↔ (length (text_payload self.now) < 2 ^ 32) }
-    {
-        let language = self.language.as_bytes();
-        octets_fit(self.encoding, &self.text, MOST - 1 - language.len())
     }
 
     /// The payload.

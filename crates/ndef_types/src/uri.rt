@@ -22,7 +22,7 @@ use std::alloc::Global;
 use std::hash::{Hash, Hasher};
 use std::marker::Model;
 
-/// A URI (RTD URI 1.0; RFC 3986 says what one is), as one whole text in UTF-8, its prefix written out.
+/// A URI (RTD URI 1.0; RFC 3986 defines URIs), as one whole text in UTF-8, its prefix written out.
 #[derive(Debug, Drop)]
 pub struct Uri {
     text: String,
@@ -110,8 +110,8 @@ impl Uri {
         })
     }
 
-    /// The URI for which the payload of a URI record stands, as a strict reader takes it: the prefix of
-    /// the code and the rest. `Refused` where the payload isn't in the set of its type or is longer than
+    /// Returns the URI of the payload of a URI record, as a strict reader takes it: the prefix of
+    /// the code and the rest. `Refused` if the payload isn't in the set of its type or is longer than
     /// a payload may be, else `NoMemory`.
     pub fn decode(alloc: Global, payload: &[u8]) -> Result<Uri, DecodeError>
         ensures { DecodesTo (IsUri Strict) (UriReason Strict) StandsForUri payload.now result }
@@ -119,8 +119,8 @@ impl Uri {
         Uri::decode_as(alloc, payload, Profile::Strict)
     }
 
-    /// The URI for which the payload of a URI record stands, as a reader of the profile takes it: under
-    /// `Standard` a reserved code is read as 0, which stands for no prefix. Refusals as for `decode`.
+    /// Returns the URI of the payload of a URI record, as a reader of the profile takes it: under
+    /// `Standard` a reserved code is read as 0, which denotes no prefix. Refusals as for `decode`.
     pub fn decode_as(alloc: Global, payload: &[u8], profile: Profile) -> Result<Uri, DecodeError>
         ensures { DecodesTo (IsUri profile) (UriReason profile) StandsForUri payload.now result }
     {

@@ -68,15 +68,15 @@ laid h k l i b x = simp append_assoc
 -- two spelled pieces at the front of the same bytes are one
 piece_once : (p q : Piece) (s t : Bool) (f g x y : List ℕ) → SpellsPiece p s f → SpellsPiece q t g → f ++ x ≡ g ++ y → (p ≡ q) × (x ≡ y)
 piece_once p q s t f g x y a b e =
-    let behind = λ (p : Piece) (s : Bool) (x : List ℕ). payload_length_octets s (length p.payload) ++ (id_length_octets (option_map length p.id) ++ (body p ++ x)) in
-    let lay = λ (p : Piece) (s : Bool) (x : List ℕ). header_octet p.first p.last p.chunked s (is_some (option_map length p.id)) p.tnf ∷ length p.kind ∷ behind p s x in
+    let following = λ (p : Piece) (s : Bool) (x : List ℕ). payload_length_octets s (length p.payload) ++ (id_length_octets (option_map length p.id) ++ (body p ++ x)) in
+    let lay = λ (p : Piece) (s : Bool) (x : List ℕ). header_octet p.first p.last p.chunked s (is_some (option_map length p.id)) p.tnf ∷ length p.kind ∷ following p s x in
     let regroup = λ (p : Piece) (s : Bool) (x : List ℕ). (let r : (octets (fields p s) ++ body p) ++ x ≡ lay p s x = laid _ _ (payload_length_octets s (length p.payload)) (id_length_octets (option_map length p.id)) (body p) x in r) in
     let whole : lay p s x ≡ lay q t y = sym (regroup p s x) ∙ ap (λ z. z ++ x) (sym a.spelled) ∙ e ∙ ap (λ z. z ++ y) b.spelled ∙ regroup q t y in
     let w1 : header_octet p.first p.last p.chunked s (is_some (option_map length p.id)) p.tnf ≡ header_octet q.first q.last q.chunked t (is_some (option_map length q.id)) q.tnf = cc in
     let w2 : length p.kind ≡ length q.kind = cc in
-    let w3 : behind p s x ≡ behind q t y = cc in
+    let w3 : following p s x ≡ following q t y = cc in
     let h = same_header _ _ _ _ _ _ _ _ _ _ _ _ a.piece.tnf b.piece.tnf w1 in
-    let w4 : behind p s x ≡ behind q s y = w3 ∙ ap (λ u. behind q u y) (sym h.3) in
+    let w4 : following p s x ≡ following q s y = w3 ∙ ap (λ u. following q u y) (sym h.3) in
     let l = same_length s (length p.payload) (length q.payload) a.piece.payload_length b.piece.payload_length _ _ w4 in
     let i = same_id_length (option_map length p.id) (option_map length q.id) h.4 _ _ l.1 in
     same_body p q s x y (same_fields _ _ _ _ _ _ s _ _ _ _ _ _ _ _ h.0 h.1 h.2 h.5 w2 l.0 i.0) i.1

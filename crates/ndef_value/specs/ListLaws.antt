@@ -66,7 +66,7 @@ unfolding zeros
 zeros_octets zero = tt
 zeros_octets (suc n) = (omega arith, zeros_octets n)
 
--- ---- what holds of each element
+-- -- properties of each element
 
 pub all_front : {X : Type 0} (P : X → Type 0) (xs ys : List X) → AllByRecursion P (xs ++ ys) → AllByRecursion P xs
 all_front P [] ys h = tt

@@ -1,4 +1,4 @@
--- What a message consists of.
+-- The parts of a message.
 use Rattle.std.specs.Prelude.{◌≡◌, ◌<◌, List, [], length, Result, Ok, Err}
 use Rattle.ndef_format.specs.Messages.{Item}
 use Rattle.ndef_format.specs.Canonical.{AreItems}

@@ -1,4 +1,4 @@
--- What a strict reader takes, as other readers take it.
+-- The messages that a strict reader takes, as other readers take them.
 use Rattle.std.proofs.Common.{ℕ, sym, subst, List, [], ◌∷◌}
 use Rattle.std.specs.List.{AllByRecursion}
 use Rattle.ndef_format.specs.Laws.{IsNoStricter}

@@ -1,4 +1,4 @@
--- What a slice's pattern or range leaves of a list, and its octets.
+-- The part of a list that a slice's pattern or range leaves, and its octets.
 use Rattle.std.proofs.Common.{◌≡◌, ℕ, zero, suc, ◌-◌, ◌<◌, ◌≤◌, List, [], ◌∷◌, length, get_or, take, drop, sym, subst, ap, arith, length-drop, Fits, w8}
 use Rattle.std.proofs.lemmas.List.{take_all}
 use Rattle.ndef_format.specs.Records.{AreOctets}
@@ -22,18 +22,18 @@ octets_drop (suc n) (x ∷ s) h = octets_drop n s h.1
 abbrev pub rest_from : ℕ → List ℕ → List ℕ
 rest_from n s = take (length s - n) (drop n s)
 
-pub behind_drop : (n : ℕ) (s : List ℕ) → rest_from n s ≡ drop n s
-behind_drop n s = take_all (length s - n) (drop n s) (omega (arith, length-drop n s))
+pub after_drop : (n : ℕ) (s : List ℕ) → rest_from n s ≡ drop n s
+after_drop n s = take_all (length s - n) (drop n s) (omega (arith, length-drop n s))
 
-pub octets_behind : (n : ℕ) (s : List ℕ) → AreOctets s → AreOctets (rest_from n s)
-octets_behind n s h = subst AreOctets (sym (behind_drop n s)) (octets_drop n s h)
+pub octets_after : (n : ℕ) (s : List ℕ) → AreOctets s → AreOctets (rest_from n s)
+octets_after n s h = subst AreOctets (sym (after_drop n s)) (octets_drop n s h)
 
 -- the first elements and the rest
 pub cut_one : (s : List ℕ) → 1 ≤ length s → get_or s 0 0 ∷ rest_from 1 s ≡ s
 cut_one [] h = absurd (omega arith)
-cut_one (x ∷ s) h = ap (λ t. x ∷ t) (behind_drop 1 (x ∷ s))
+cut_one (x ∷ s) h = ap (λ t. x ∷ t) (after_drop 1 (x ∷ s))
 
 pub cut_two : (s : List ℕ) → 2 ≤ length s → get_or s 0 0 ∷ get_or s 1 0 ∷ rest_from 2 s ≡ s
 cut_two [] h = absurd (omega arith)
 cut_two (x ∷ []) h = absurd (omega arith)
-cut_two (x ∷ y ∷ s) h = ap (λ t. x ∷ y ∷ t) (behind_drop 2 (x ∷ y ∷ s))
+cut_two (x ∷ y ∷ s) h = ap (λ t. x ∷ y ∷ t) (after_drop 2 (x ∷ y ∷ s))

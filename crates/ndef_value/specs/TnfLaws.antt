@@ -36,7 +36,7 @@ pub read_by_all : (profile : Profile) (n : ℕ) → IsRead Strict n → IsRead p
 read_by_all Strict n h = h
 read_by_all Standard n h = omega arith
 
--- a number below 8 other than 6 does not stand for Unchanged
+-- a number below 8 other than 6 does not denote Unchanged
 pub changed_name : (n : ℕ) → n < 8 → n ≢ 6 → tnf_of n ≢ Unchanged
 changed_name zero h d = λ e. cc
 changed_name (suc zero) h d = λ e. cc

@@ -1,4 +1,4 @@
-//! What holds of the format, whoever reads or writes it.
+//! Properties of the format, for every reader and writer.
 ghost use Rattle.ndef_format.specs.Reasons.{RanksAreApart};
 ghost use Rattle.ndef_format.specs.Laws.{OneMeaning, StrictIsRead, CanonicalSpells, CanonicalIsShortest, MessagesAreBounded};
 
@@ -25,7 +25,7 @@ pub fn messages_are_bounded()
     ensures { MessagesAreBounded }
 {}
 
-/// Of some reasons one alone is tried first: no two have one rank.
+/// Among some reasons exactly one is tried first: no two have one rank.
 pub fn ranks_are_apart()
     ensures { RanksAreApart }
 {}

@@ -1,10 +1,10 @@
 //! The values of an NDEF message (NFC Forum, NDEF 1.0): names, records, messages and limits.
 //!
-//! Where to look:
+//! The files:
 //!
 //! - `record.rt`, `message.rt`, `name.rt`, `bytes.rt`: records, messages, names and byte strings.
-//! - `limits.rt`: how large a message may be.
-//! - `laws.rt`: what holds of the bytes of messages. The crate ndef_format defines these.
+//! - `limits.rt`: the greatest size of a message.
+//! - `laws.rt`: properties of the bytes of messages. The crate ndef_format defines these.
 #![tactic(auto)]
 
 mod bytes;

@@ -1,4 +1,4 @@
-//! How large a message may be, and who reads it.
+//! The greatest size of a message, and the profile of its reader.
 ghost use Rattle.std.specs.Prelude.{◌≡◌, IfOk, IsOk, ◌↔◌};
 ghost use Rattle.ndef_format.specs.Limits.{LimitValues, AreInRange, strict_limits, usual_limits};
 
@@ -15,7 +15,7 @@ pub const MOST_RECORDS: u32 = 65535;
 /// The most pieces of a record.
 pub const MOST_PIECES: u32 = 65535;
 
-/// How large a message that is read may be: the bytes of a payload, its pieces joined, 1 to 4294967295; the records of
+/// The limits of a message that is read: the bytes of a payload, its pieces joined, 1 to 4294967295; the records of
 /// a message, a nested one too, 1 to 65535; the pieces of a record, 1 to 65535; and how reserved values are read. NDEF
 /// 1.0 sets no limit but that of its 32-bit lengths.
 #[derive(Clone, Copy, Debug, PartialEq, Eq, Hash)]
@@ -121,7 +121,7 @@ impl Limits {
         self.pieces
     }
 
-    /// How reserved values are read.
+    /// The way in which reserved values are read.
     pub fn profile(&self) -> Profile
         ensures value { result ≡ self.now.profile }
         ensures range { AreInRange self.now }

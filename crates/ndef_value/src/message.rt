@@ -37,7 +37,7 @@ impl Model for Message {
     ghost invariant = { λ m. AreItems m.records.items };
 }
 
-/// Why there is no message of some records, which are handed back.
+/// The reason why there is no message of some records, which are handed back.
 #[derive(Debug, Drop, Error)]
 pub enum MessageError {
     /// There are none.

@@ -36,7 +36,7 @@ impl Model for Name {
     ghost invariant = { λ n. (length n.bytes.items ≤ 255) × (32 ≤ n.bytes.capacity) × AreOctets n.bytes.items };
 }
 
-/// Why there is no name of some bytes.
+/// The reason why there is no name of some bytes.
 #[derive(Clone, Copy, Debug, Drop, PartialEq, Eq, Hash, Error)]
 pub enum NameError {
     /// There are more than 255 of them.

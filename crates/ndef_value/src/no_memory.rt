@@ -2,7 +2,7 @@
 use std::alloc::{AllocError, AllocFailed};
 use thiserror::Error;
 
-/// An allocation failed. What was to grow is as it was before the call, unless that says otherwise.
+/// An allocation failed. The value that was to grow is as it was before the call, unless the call states otherwise.
 #[derive(Clone, Copy, Debug, Drop, PartialEq, Eq, Hash, Error)]
 #[error("no memory")]
 pub struct NoMemory;
@@ -13,7 +13,7 @@ impl From<AllocError> for NoMemory {
     }
 }
 
-/// Drops what wasn't stored.
+/// Drops the value that wasn't stored.
 impl<T: Drop> From<AllocFailed<T>> for NoMemory {
     fn from(_: AllocFailed<T>) -> NoMemory {
         NoMemory

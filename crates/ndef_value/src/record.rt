@@ -36,7 +36,7 @@ impl Model for Record {
     ghost inverse = { λ v. record { tnf = v.tnf; kind = v.kind; id = v.id; payload = v.payload } };
 }
 
-/// Why some parts make no record, in the order in which the reasons are tried. Nothing was made.
+/// The reason why some parts make no record, in the order in which the reasons are tried. Nothing was made.
 #[derive(Clone, Copy, Debug, Drop, PartialEq, Eq, Hash, Error)]
 pub enum RecordError {
     /// The type name format is Unchanged, or the parts don't go with it.

@@ -6,7 +6,7 @@
 //! - Write it: [`encode`], [`encode_chunked`], [`write_message`] to a [`Sink`], an [`Encoder`] that fills one buffer
 //!   after another; a [`RecordEncoder`] for a record whose payload comes in parts.
 //! - Payloads: [`Text`], [`Uri`], [`SmartPoster`], [`Request`], [`Select`] and their parts, and the
-//!   [`carriers`] of a message. A [`Builder`] makes posters and handovers record by record. [`Typed`] says that
+//!   [`carriers`] of a message. A [`Builder`] makes posters and handovers record by record. [`Typed`] demands that
 //!   payloads are checked, [`Opaque`] that they are not; [`With`] adds a record type of your own, whose payloads
 //!   are a [`Language`], and a [`RecordLanguage`] of your own over [`Leaf`] says which are checked.
 //! - A [`Refusal`] has the place of the first byte after which no continuation is a message, and its [`Reason`].
@@ -14,7 +14,6 @@
 //! The crates that these come from have the laws, and what only other crates of this repository need.
 #![tactic(auto)]
 
-pub use ndef_building::{BuildError, Builder};
 pub use ndef_lang::{Fixed, Kind, Language, Leaf, Opaque, OwnType, RecordLanguage, With, is_type};
 pub use ndef_message::{
     CheckError, Checked, Checker, Decoder, Encoder, Event, Fed, Form, InputError, Item, Items,
@@ -25,10 +24,11 @@ pub use ndef_message::{
 };
 pub use ndef_nest::Typed;
 pub use ndef_types::{
-    Ac, Action, AlternativeParts, Carrier, CarrierParts, DecodeError, DetailError, EncodeError,
-    Encoding, ErrorParts, HandoverError, Link, LinkError, Links, NotHandover, NotPoster, Power,
-    Request, Select, SmartPoster, Text, TextError, TextParts, Texts, TooMany, Uri, UriParts,
-    carriers, carriers_as, carriers_view, prefix as uri_prefix, split as split_uri_prefix, unmark,
+    Ac, Action, AlternativeParts, BuildError, Builder, Carrier, CarrierParts, DecodeError,
+    DetailError, EncodeError, Encoding, ErrorParts, HandoverError, Link, LinkError, Links,
+    NotHandover, NotPoster, Power, Request, Select, SmartPoster, Text, TextError, TextParts, Texts,
+    TooMany, Uri, UriParts, carriers, carriers_as, carriers_view, prefix as uri_prefix,
+    split as split_uri_prefix, unmark,
 };
 pub use ndef_value::{
     Bytes, Limits, MOST_PAYLOAD, MOST_PIECES, MOST_RECORDS, Message, MessageError, Name, NameError,

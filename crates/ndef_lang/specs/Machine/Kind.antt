@@ -1,4 +1,4 @@
--- Which kinds of payload the types of records name.
+-- The kinds of payload that the types of records name.
 use Rattle.std.specs.Prelude.{◌≡◌, ℕ, ◌==◌, List, ◌∷◌, ◌++◌, length, if◌then◌else◌}
 use Rattle.ndef_format.specs.declared.kind.Kind.{Kind}
 use Rattle.ndef_format.specs.declared.kind.Kind.TheVariants.{Other}

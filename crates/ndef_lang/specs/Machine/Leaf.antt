@@ -21,10 +21,10 @@ use Rattle.ndef_lang.specs.declared.leaf.Stage.TheVariants as stages
 use Rattle.ndef_lang.specs.declared.leaf.Leaf.{Leaf}
 use Rattle.ndef_lang.specs.declared.leaf.Leaf.TheVariants.{Field, Utf8, Utf16, Refused}
 use Rattle.ndef_lang.specs.Octets.{later}
-use Rattle.ndef_lang.specs.Machine.Utf8.{CompletesUtf8, utf8_told, utf8_lengths}
-use Rattle.ndef_lang.specs.Machine.Utf16.{CompletesUtf16, utf16_told, utf16_lengths}
+use Rattle.ndef_lang.specs.Machine.Utf8.{CompletesUtf8, utf8_reason, utf8_lengths}
+use Rattle.ndef_lang.specs.Machine.Utf16.{CompletesUtf16, utf16_reason, utf16_lengths}
 
--- ---- what completes a payload
+-- ---- the octets that complete a payload
 
 -- the octets of a field
 abbrev pub InClass : Class → ℕ → Type 0
@@ -91,7 +91,7 @@ leaf_of kinds.Error profile = Field 0 classes.Any stages.ErrorReason
 leaf_of kinds.Carrier profile = Field 1 classes.Any stages.CarrierKindLength
 leaf_of _ profile = Field 0 classes.Any stages.Any
 
--- what completes a payload
+-- the octets that complete a payload
 abbrev pub CompletesLeaf : Leaf → List ℕ → Type 0
 CompletesLeaf (Field left class next) r = Octets (InClass class) left (CompletesStage next) r
 CompletesLeaf (Utf8 text) r = CompletesUtf8 text r
@@ -165,8 +165,8 @@ abbrev pub LeafReached : Leaf → Kind → Profile → List ℕ → Type 0
 LeafReached state kind profile s = ReachedBy state (PayloadReason kind profile) s
 
 -- the reason of the octet taken last
-abbrev pub leaf_told : Leaf → Reason
-leaf_told (Field left class next) = reasons.DoesNotFit
-leaf_told (Utf8 text) = utf8_told text
-leaf_told (Utf16 text) = utf16_told text
-leaf_told (Refused reason) = reason
+abbrev pub leaf_reason : Leaf → Reason
+leaf_reason (Field left class next) = reasons.DoesNotFit
+leaf_reason (Utf8 text) = utf8_reason text
+leaf_reason (Utf16 text) = utf16_reason text
+leaf_reason (Refused reason) = reason

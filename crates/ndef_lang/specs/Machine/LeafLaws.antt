@@ -1,12 +1,14 @@
--- What completes a payload: its octets and its lengths.
-use Rattle.std.proofs.Common.{ℕ, zero, suc, ◌<◌, Bool, true, false, List, [], ◌∷◌, length, refl, sym, ap, subst, arith}
+-- The completions of a payload: their octets and their lengths.
+use Rattle.std.proofs.Common.{◌≡◌, ◌≢◌, ℕ, zero, suc, ◌-◌, ◌<◌, ◌==◌, Bool, true, false, ◌||◌, List, [], ◌∷◌, length, ◌↔◌, refl, sym, ap, subst, arith}
+use Rattle.std.specs.Prelude.{if◌then◌else◌}
+use Rattle.std.proofs.lemmas.Bool.{eqb-true, ne_eqb}
 use Rattle.ndef_format.specs.Records.{AreOctets}
 use Rattle.ndef_format.specs.declared.profile.Profile.{Profile}
 use Rattle.ndef_format.specs.declared.profile.Profile.TheVariants.{Strict, Standard}
-use Rattle.ndef_format.specs.Octets.{Counted}
+use Rattle.ndef_format.specs.Octets.{AreOctetsOf, Counted, IsOctet, Octets}
 use Rattle.ndef_format.specs.Texts.{IsCodeOctet, IsTextIn, IsText, is_wide, code_length}
 use Rattle.ndef_format.specs.Uris.{IsReserved, IsUri}
-use Rattle.ndef_format.specs.Handovers.{AreReferences, AreAuxiliary, IsError}
+use Rattle.ndef_format.specs.Handovers.{AreReferences, AreAuxiliary, IsError, IsErrorData}
 use Rattle.ndef_format.specs.Nested.{IsPayload}
 use Rattle.ndef_format.specs.declared.kind.Kind.{Kind}
 use Rattle.ndef_format.specs.declared.kind.Kind.TheVariants as kinds
@@ -24,7 +26,7 @@ use Rattle.ndef_lang.specs.LengthLaws.{octets_lengths}
 use Rattle.ndef_lang.specs.OctetLaws.{any_octets, counted_octets, counted_lengths, field_octets, field_lengths, first_lengths}
 use Rattle.ndef_lang.specs.Machine.Utf8Laws.{utf8_octets, completes_utf8_octets, are_utf8_lengths}
 use Rattle.ndef_lang.specs.Machine.Utf16Laws.{utf16_octets, completes_utf16_octets, are_utf16_lengths}
-use Rattle.ndef_lang.specs.Machine.Leaf.{InClass, CompletesStage, CompletesLeaf, stage_lengths, leaf_lengths}
+use Rattle.ndef_lang.specs.Machine.Leaf.{InClass, CompletesStage, CompletesLeaf, field_after, leaf_lengths, leaf_of, stage_lengths, text_stage}
 
 -- ---- octets
 
@@ -135,3 +137,70 @@ are_leaf_lengths (Field left class next) = field_lengths (InClass class) 0 (some
 are_leaf_lengths (Utf8 text) = are_utf8_lengths text
 are_leaf_lengths (Utf16 text) = are_utf16_lengths text
 are_leaf_lengths (Refused reason) = record { all = λ r h. absurd h; each = λ k h. absurd h }
+
+-- ---- a payload by its layout
+
+-- a language code and the text after it, by its stage
+pub coded_text : (wide : Bool) (n : ℕ) (r : List ℕ)
+    → Octets IsCodeOctet n (CompletesStage (text_stage wide)) r ↔ Octets IsCodeOctet n (IsTextIn wide) r
+coded_text true n r = (λ h. h, λ h. h)
+coded_text false n r = (λ h. h, λ h. h)
+
+-- n octets and nothing more
+pub octets_to_end : (n : ℕ) (r : List ℕ) → Octets IsOctet n (CompletesStage stages.End) r ↔ AreOctetsOf n r
+octets_to_end zero [] = (λ h. (tt, refl), λ h. refl)
+octets_to_end zero (b ∷ r) = (λ h. cc, λ h. absurd (omega (arith, h.1)))
+octets_to_end (suc n) [] = (λ h. absurd h, λ h. absurd (omega (arith, h.1)))
+octets_to_end (suc n) (b ∷ r) =
+    let f = octets_to_end n r in
+    (λ h. (let t = f.0 h.1 in ((h.0, t.0), omega (arith, t.1))), λ h. (h.0.0, f.1 (h.0.1, omega (arith, h.1))))
+
+-- a payload of a kind is one of its layout
+pub payload_completes : (kind : Kind) (profile : Profile) (s : List ℕ) → IsPayload kind profile s
+    → CompletesLeaf (leaf_of kind profile) s
+payload_completes kinds.Action profile s h = (octets_to_end 1 s).1 h
+payload_completes kinds.Size profile s h = (octets_to_end 4 s).1 h
+payload_completes kinds.Collision profile s h = (octets_to_end 2 s).1 h
+payload_completes kinds.Text profile s h = h
+payload_completes kinds.Uri profile s h = h
+payload_completes kinds.MediaType profile s h = h
+payload_completes kinds.Alternative profile s h = h
+payload_completes kinds.Error profile s h = h
+payload_completes kinds.Carrier profile s h = h
+payload_completes kinds.Other profile s h = h
+payload_completes kinds.SmartPoster profile s h = h
+payload_completes kinds.Request profile s h = h
+payload_completes kinds.Select profile s h = h
+
+-- the data of an error, by the tests of its reason
+error_leads : (b : ℕ) (s : List ℕ) → IsErrorData b s → (one two three : Bool) → (b == 1) ≡ one → (b == 2) ≡ two
+    → (b == 3) ≡ three
+    → CompletesLeaf (Field (if one || three then 1 else (if two then 4 else 0)) classes.Any
+    (if one || three then stages.End else (if two then stages.End else stages.Any))) s
+error_leads b s h true two three d e f = (octets_to_end 1 s).1 (h.0, h.1 (eqb-true b 1 d))
+error_leads b s h false two true d e f = (octets_to_end 1 s).1 (h.0, h.3 (eqb-true b 3 f))
+error_leads b s h false true false d e f = (octets_to_end 4 s).1 (h.0, h.2 (eqb-true b 2 e))
+error_leads b s h false false false d e f = h.0
+
+references_lead : (count b : ℕ) (r : List ℕ) → AreReferences count (b ∷ r)
+    → CompletesLeaf (field_after (stages.References count) b) r
+references_lead zero b r h = h.1
+references_lead (suc n) b r h =
+    let same : n ≡ suc n - 1 = omega arith in
+    let rest = subst (λ m. Octets IsOctet b (CompletesStage (stages.References m)) r) same h.1 in
+    rw (ne_eqb (suc n) 0 (λ e. omega arith)) rest
+
+-- after its first octet a stage that isn't a text goes on with the field that the octet leaves
+pub stage_leads : (stage : Stage) (b : ℕ) (r : List ℕ) → stage ≢ stages.Utf8 → stage ≢ stages.Utf16
+    → CompletesStage stage (b ∷ r) → CompletesLeaf (field_after stage b) r
+stage_leads stages.End b r k l h = cc
+stage_leads stages.Any b r k l h = h.1
+stage_leads stages.Utf8 b r k l h = absurd (k refl)
+stage_leads stages.Utf16 b r k l h = absurd (l refl)
+stage_leads stages.Status b r k l h = (coded_text (is_wide b) (code_length b) r).1 h.2
+stage_leads (stages.UriCode profile) b r k l h = h.2
+stage_leads stages.ErrorReason b r k l h = error_leads b r h.1 (b == 1) (b == 2) (b == 3) refl refl refl
+stage_leads stages.CarrierKindLength b r k l h = h.1
+stage_leads stages.ReferenceLength b r k l h = h.1
+stage_leads stages.AuxiliaryCount b r k l h = h.1
+stage_leads (stages.References count) b r k l h = references_lead count b r h

@@ -1,4 +1,4 @@
--- What is kept of a type name.
+-- The octets that are kept of a type name.
 use Rattle.std.specs.Prelude.{ℕ, List, [], take}
 use Rattle.ndef_lang.specs.declared.type_name.TypeName.{TypeName}
 

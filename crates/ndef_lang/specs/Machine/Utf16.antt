@@ -25,7 +25,7 @@ SpelledRest little paired s = (us : List ℕ) × (UnitsRest paired us × (spelle
 abbrev pub UnitThen : (little paired : Bool) → ℕ → List ℕ → Type 0
 UnitThen little paired u r = (us : List ℕ) × (UnitsRest paired (u ∷ us) × (spelled little us ≡ r))
 
--- what completes a text
+-- the octets that complete a text
 abbrev pub CompletesUtf16 : Utf16State → List ℕ → Type 0
 CompletesUtf16 Start r = IsUtf16 r
 CompletesUtf16 (First a) r = IsUtf16 (a ∷ r)
@@ -71,10 +71,10 @@ utf16_missing (Half false false a) = if is_high_octet a then 3 else 1
 utf16_missing (Half _ _ a) = 1
 utf16_missing Refused = 0
 
--- the lengths of what completes it
+-- the lengths of the octets that complete it
 abbrev pub utf16_lengths : Utf16State → Lengths
 utf16_lengths state = if utf16_refused state then Never else PairsFrom (utf16_missing state)
 
 -- the reason of the octet taken last
-abbrev pub utf16_told : Utf16State → Reason
-utf16_told state = if utf16_refused state then reasons.Utf16 else reasons.DoesNotFit
+abbrev pub utf16_reason : Utf16State → Reason
+utf16_reason state = if utf16_refused state then reasons.Utf16 else reasons.DoesNotFit

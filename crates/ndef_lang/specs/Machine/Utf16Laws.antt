@@ -1,4 +1,4 @@
--- What completes a UTF-16 text: its octets and its lengths.
+-- The completions of a UTF-16 text: their octets and their lengths.
 use Rattle.std.proofs.Common.{◌≡◌, ℕ, zero, suc, ◌+◌, ◌-◌, ◌*◌, ◌/◌, ◌%◌, ◌<◌, ◌≤◌, ◌⊎◌, ◌↔◌, Bool, true, false, List, [], ◌∷◌, ◌++◌, length, length-append, refl, ap, subst, inl, inr, arith, lt-ltb, le-ltb, le-leb, leb-true, ltb-true, ne_eqb}
 use Rattle.std.proofs.lemmas.Bool.{cases_lt, cases_eq, and_parts, lt-leb}
 use Rattle.std.proofs.lemmas.Bool.Decides.{nat_tests}

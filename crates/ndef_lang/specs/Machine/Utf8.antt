@@ -14,7 +14,7 @@ EndsCharacter zero least most r = IsUtf8 r
 EndsCharacter (suc n) least most [] = ⊥
 EndsCharacter (suc n) least most (b ∷ r) = (least ≤ b) × (b ≤ most) × EndsCharacter n 0x80 0xbf r
 
--- what completes a text
+-- the octets that complete a text
 abbrev pub CompletesUtf8 : Utf8Lang → List ℕ → Type 0
 CompletesUtf8 Whole r = IsUtf8 r
 CompletesUtf8 OneMore r = EndsCharacter 1 0x80 0xbf r
@@ -31,11 +31,11 @@ abbrev pub Utf8Reached : Utf8Lang → List ℕ → Type 0
 Utf8Reached state s = Continues IsUtf8 (CompletesUtf8 state) s
 
 -- the reason of the octet taken last
-abbrev pub utf8_told : Utf8Lang → Reason
-utf8_told Refused = reasons.Utf8
-utf8_told _ = reasons.DoesNotFit
+abbrev pub utf8_reason : Utf8Lang → Reason
+utf8_reason Refused = reasons.Utf8
+utf8_reason _ = reasons.DoesNotFit
 
--- the lengths of what completes a text
+-- the lengths of the octets that complete a text
 abbrev pub utf8_lengths : Utf8Lang → Lengths
 utf8_lengths Whole = From 0
 utf8_lengths OneMore = From 1

@@ -1,4 +1,4 @@
--- What completes a UTF-8 text: its octets and its lengths.
+-- The completions of a UTF-8 text: their octets and their lengths.
 use Rattle.std.proofs.Common.{◌≡◌, ℕ, zero, suc, ◌+◌, ◌/◌, ◌<◌, ◌≤◌, true, List, [], ◌∷◌, ◌++◌, length, refl, subst, inl, inr, arith, lt-ltb, le-ltb}
 use Rattle.std.proofs.lemmas.Bool.{cases_lt, and_parts}
 use Rattle.std.proofs.lemmas.Str.{encode_ascii, IsUtf8-nil}

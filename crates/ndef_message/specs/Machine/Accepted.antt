@@ -31,14 +31,14 @@ record_of w = record { tnf = tnf_of (tnf_number w.header); kind = w.kind.now; id
 abbrev pub passed : List ℕ → WholePiece → List ℕ
 passed bytes w = take (length bytes - length w.rest.now) bytes
 
--- NDEF 1.0, record layout: the bytes begin with a record in one piece, which may stand at the place, with a payload of
+-- NDEF 1.0, record layout: the bytes begin with a record in one piece, which may occur at the place, with a payload of
 -- its kind
 pub record BeginsWith (set : Sets) (limits : LimitValues) (place : Place) (bytes : List ℕ)
     (w : WholePiece) : Type 0 where
   pub outer : place.inside ≡ false
   pub split : IsSplit (shown w) (is_set 4 w.header) w.rest.now bytes
   pub no_id : is_set 3 w.header ≡ false → w.id.now ≡ []
-  pub stands : pieces.Stands (spot_of limits.profile place) (shown w)
+  pub stands : pieces.IsConsistentAt (spot_of limits.profile place) (shown w)
   pub one : is_set 5 w.header ≡ false
   pub member : IsMember set limits (record_of w)
 
@@ -106,7 +106,7 @@ abbrev pub IsRunEnd : LimitValues → Place → List ℕ → Bool → Type 0
 IsRunEnd limits place bytes last = (records pieces room : ℕ) (m : Item) → place ≡ numbers (inside records pieces room m)
     → EndsRun limits records pieces room m bytes last
 
--- what is known before a piece of an open run and the record so far, and how far some bytes continue the run, with the
+-- the state before a piece of an open run and the record so far, and how far some bytes continue the run, with the
 -- rest to come
 pub record RunGoesOn (limits : LimitValues) (c : Before) (m : Item) (place : Place) (bytes rest : List ℕ) : Type 0 where
   pub later : List Piece
@@ -134,8 +134,8 @@ pub record IsFresh {L : Type 0} (state : State L) : Type 0 where
   pub empty : state.reader.octets ≡ []
   pub outer : state.place.inside ≡ false
 
--- whole records have led to this place, where another may begin or the message ends
-pub record IsBehind {L : Type 0} (limits : LimitValues) (state : State L) (place : Place) (last : Bool) : Type 0 where
+-- the state at this place follows whole records, and another may begin there or the message ends
+pub record IsAfter {L : Type 0} (limits : LimitValues) (state : State L) (place : Place) (last : Bool) : Type 0 where
   pub place_is : state.place ≡ place
   pub reader_is : last ≡ false → state.reader ≡ record {
     spot = spot_of limits.profile place;
@@ -155,8 +155,8 @@ pub record IsAtChunk {L : Type 0} (language : Ghosts L) (state : State L) : Type
   pub future : AllPass (language.future state.payload)
   pub reached : AllLead (language.reached state.payload)
 
--- pieces of the run have led to this place, where another begins
-pub record IsBehindChunks {L : Type 0} (limits : LimitValues) (old new : State L) (place : Place) : Type 0 where
+-- the state at this place follows pieces of the run, and another begins there
+pub record IsAfterChunks {L : Type 0} (limits : LimitValues) (old new : State L) (place : Place) : Type 0 where
   pub place_is : new.place ≡ place
   pub reader_is : new.reader ≡ record { spot = spot_of limits.profile place; octets = []; answer = steps.More }
   pub opens : IsOpen (spot_of limits.profile place) []
@@ -166,5 +166,5 @@ pub record IsBehindChunks {L : Type 0} (limits : LimitValues) (old new : State L
 -- ---- records given
 
 -- the bytes end these records, and no record is begun
-abbrev pub LeadsBetween : Fronts Point → List ℕ → List Item → Type 0
-LeadsBetween reached bytes given = (next : Point) × IsBetweenRecords next × reached bytes given next
+abbrev pub IsReachableBetween : Fronts Point → List ℕ → List Item → Type 0
+IsReachableBetween reached bytes given = (next : Point) × IsBetweenRecords next × reached bytes given next

@@ -29,14 +29,14 @@ plan_of form size first last m = record {
 abbrev pub records_octets : Form → Option ℕ → (first : Bool) → List Item → List ℕ
 records_octets form size first m = flat_map (written_piece form) (all_pieces (cut_runs first size m))
 
--- what is left of some records, of which the first is written up to here
+-- the rest of some records, of which the first is written up to here
 abbrev pub records_left : Form → Option ℕ → (first : Bool) → Progress → List Item → List ℕ
 records_left form size first at [] = []
 records_left form size first at (m ∷ ms) =
     octets_left (plan_of form size first (is_nil ms) m) at m.kind m.id (drop at.taken m.payload)
     ++ records_octets form size false ms
 
--- what is left of a message
+-- the rest of a message
 abbrev pub message_left : Form → Option ℕ → List Item → Spot → List ℕ
 message_left form size m spot = records_left form size (spot.index == 0) spot.progress (drop spot.index m)
 

@@ -1,4 +1,4 @@
--- What is seen of the sources and sinks that fail, or never end.
+-- The state that is seen of the sources and sinks that fail, or never end.
 use Rattle.std.specs.Prelude.{◌-◌, ℕ, Bool, false, List, [], ◌∷◌, length, Option, Some, None, ◌||◌, ◌==◌, min}
 use Rattle.ndef_message.specs.Machine.Slices.{Sliced}
 
@@ -11,7 +11,7 @@ pub record Failing : Type 0 where
 
 -- ---- a source without an end
 
--- what is left of its front, or of the pattern that repeats for ever; the number of bytes that are shown, and the
+-- the rest of its front, or of the pattern that repeats for ever; the number of bytes that are shown, and the
 -- number that were taken
 pub record Endless : Type 0 where
   pub rest : List ℕ

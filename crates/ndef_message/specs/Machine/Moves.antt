@@ -3,7 +3,7 @@ use Rattle.std.specs.Prelude.{◌≡◌, ◌+◌, ◌≤◌, ℕ, nat_lt, List, 
 use Rattle.ndef_format.specs.Messages.{Item}
 use Rattle.ndef_format.specs.Records.{HeadFields, octets}
 use Rattle.ndef_format.specs.Limits.{LimitValues}
-use Rattle.ndef_format.specs.Positions.{MayStand}
+use Rattle.ndef_format.specs.Positions.{MayOccur}
 use Rattle.ndef_piece.specs.Walk.{Before, spot, ending_record, after}
 use Rattle.ndef_message.specs.Machine.Points.{Point, InHead, InType, InId, InPayload, AtEnd, piece}
 
@@ -54,7 +54,7 @@ point_with (AtEnd c) t = AtEnd c
 abbrev pub Moves : LimitValues → List Item → Point → List ℕ → List Item → Point → Type 0
 Moves limits given (InHead c xs) t given' point' =
     ((given' ≡ given) × (point' ≡ InHead c (xs ++ t)))
-    ⊎ ((f : HeadFields) × MayStand (spot limits.profile c) f × (octets f ≡ xs ++ t)
+    ⊎ ((f : HeadFields) × MayOccur (spot limits.profile c) f × (octets f ≡ xs ++ t)
     × GoesTo limits given c (parts_with f [] [] []) given' point')
 Moves limits given (InType c f kind) t given' point' = (length kind + length t ≤ f.kind_length)
     × GoesTo limits given c (parts_with f (kind ++ t) [] []) given' point'

@@ -1,4 +1,4 @@
--- What is kept of the open record, after octets of one field.
+-- The octets that are kept of the open record, after octets of one field.
 use Rattle.std.specs.Prelude.{◌+◌, ◌<◌, ◌≤◌, ℕ, List, ◌++◌, length, Option, Some, None, unwrap_or, ⊤, ◌⊎◌}
 use Rattle.ndef_format.specs.Messages.{Item}
 use Rattle.ndef_format.specs.declared.tnf.Tnf.{Tnf}
@@ -25,7 +25,7 @@ opened_after (phases.Payload head left) o t = record o { payload = o.payload ++ 
 opened_after phases.Done o t = o
 opened_after (phases.Refused refusal) o t = o
 
--- there is room for these octets of that field
+-- the memory holds these octets of that field
 abbrev pub HasRoom : Phase → Opened → List ℕ → Type 0
 HasRoom (phases.Type head left) o t = length o.kind + length t ≤ 255
 HasRoom (phases.Id head left) o t = length o.id + length t ≤ 255

@@ -5,13 +5,13 @@ use Rattle.ndef_format.specs.Records.{Piece, HeadFields, octets, AreOctets}
 use Rattle.ndef_format.specs.Limits.{LimitValues}
 use Rattle.ndef_format.specs.declared.reason.Reason.{Reason}
 use Rattle.ndef_format.specs.Reasons.{Conditions}
-use Rattle.ndef_format.specs.Positions.{MayStand, IsOpen, Field}
+use Rattle.ndef_format.specs.Positions.{MayOccur, IsOpen, Field}
 use Rattle.ndef_piece.specs.Walk.{Before, start, spot, Walked}
 use Rattle.ndef_format.specs.Positions as fields
 use Rattle.ndef_message.specs.Opened.{Opened, open_record}
 use Rattle.ndef_format.specs.Refusals.{IsReasonOf}
 
--- the field of the next octet, with what is known before its piece
+-- the field of the next octet, with the state before its piece
 pub data Point : Type 0 where
   InHead : Before → List ℕ → Point
   InType : Before → HeadFields → List ℕ → Point
@@ -23,7 +23,7 @@ pub data Point : Type 0 where
 abbrev pub start_point : LimitValues → Point
 start_point limits = InHead (start limits) []
 
--- what is known before the piece of the point
+-- the state before the piece of the point
 abbrev pub before : Point → Before
 before (InHead c xs) = c
 before (InType c f kind) = c
@@ -69,10 +69,10 @@ piece f kind id payload =
       payload = payload;
     }
 
--- NDEF 1.0, record layout: the octets are a front of the piece, which may stand there
+-- NDEF 1.0, record layout: the octets are a front of the piece, which may occur there
 pub record IsPartAt (limits : LimitValues) (c : Before) (f : HeadFields) (kind id payload : List ℕ) : Type 0 where
   pub goes_on : c.over ≡ false
-  pub stands : MayStand (spot limits.profile c) f
+  pub stands : MayOccur (spot limits.profile c) f
   pub kind_octets : AreOctets kind
   pub id_octets : AreOctets id
   pub payload_octets : AreOctets payload

@@ -1,4 +1,4 @@
--- What is left of a reader, of which some bytes are shown.
+-- The rest of a reader, of which some bytes are shown.
 use Rattle.std.specs.Prelude.{◌≤◌, ℕ, Bool, true, List, length, drop, Option, Some, None, IfSome, if◌then◌else◌, nat_eq, nat_le, option_and_then, option_map, ◌||◌, not}
 use Rattle.std.specs.List.{starts_with}
 use Rattle.std.specs.Option.{option_map_or}

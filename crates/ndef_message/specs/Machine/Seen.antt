@@ -1,4 +1,4 @@
--- What the bytes of whole pieces say of them: in terms of the values of views, items and pieces.
+-- The properties of whole pieces from their bytes: in terms of the values of views, items and pieces.
 use Rattle.std.specs.Prelude.{◌≡◌, ℕ, zero, suc, ◌+◌, ◌-◌, ◌^◌, ◌<◌, ◌≤◌, Bool, true, false, List, [], ◌∷◌, length, take, drop, slice_index, Option, Some, None, unwrap_or, if◌then◌else◌}
 use Rattle.std.specs.Int.{w32, from_be_bytes}
 use Rattle.std.specs.List.{AllByRecursion}

@@ -1,4 +1,4 @@
--- What bytes say of the pieces that they spell.
+-- The properties of pieces from the bytes that spell them.
 use Rattle.std.proofs.Common.{◌≡◌, ℕ, zero, suc, ◌+◌, ◌-◌, ◌<◌, ◌^◌, Bool, true, false, refl, sym, ◌∙◌, ap, ap₂, arith, List, [], ◌∷◌, ◌++◌, length, length-append, take, drop, take_at, drop_at, append_assoc, Option, Some, None}
 use Rattle.std.specs.Prelude.{unwrap_or, is_some}
 use Rattle.std.specs.Option.{option_map}
@@ -36,17 +36,17 @@ body_length p = omega (
 )
 
 -- ---- heads
-payload_told : (short : Bool) (n : ℕ) (o : Option ℕ) (h k : ℕ) (z : List ℕ) → n < 2 ^ 32
+payload_reported : (short : Bool) (n : ℕ) (o : Option ℕ) (h k : ℕ) (z : List ℕ) → n < 2 ^ 32
     → payload_length_at short ((h ∷ k ∷ (payload_length_octets short n ++ id_length_octets o)) ++ z) ≡ n
-payload_told true n o h k z l = refl
-payload_told false n o h k z l = from_be_bytes-to_be_bytes_4 n l
+payload_reported true n o h k z l = refl
+payload_reported false n o h k z l = from_be_bytes-to_be_bytes_4 n l
 
-id_told : (short : Bool) (n : ℕ) (o : Option ℕ) (h k : ℕ) (z : List ℕ)
+id_reported : (short : Bool) (n : ℕ) (o : Option ℕ) (h k : ℕ) (z : List ℕ)
     → id_length_at (is_some o) short ((h ∷ k ∷ (payload_length_octets short n ++ id_length_octets o)) ++ z) ≡ o
-id_told true n None h k z = refl
-id_told true n (Some d) h k z = refl
-id_told false n None h k z = refl
-id_told false n (Some d) h k z = refl
+id_reported true n None h k z = refl
+id_reported true n (Some d) h k z = refl
+id_reported false n None h k z = refl
+id_reported false n (Some d) h k z = refl
 
 -- the octets of a head determine it, whatever follows
 head_is_known : (f : HeadFields) (z : List ℕ) → CanBeSpelled f → fields_with (header f) (octets f ++ z) ≡ f
@@ -54,10 +54,10 @@ head_is_known f z l =
     let p = header_parts f l.tnf in
     let n : payload_length_at (is_set 4 (header f)) (octets f ++ z) ≡ f.payload_length =
     ap (λ s. payload_length_at s (octets f ++ z)) p.short
-    ∙ payload_told f.short f.payload_length f.id_length (header f) f.kind_length z l.payload in
+    ∙ payload_reported f.short f.payload_length f.id_length (header f) f.kind_length z l.payload in
     let i : id_length_at (is_set 3 (header f)) (is_set 4 (header f)) (octets f ++ z) ≡ f.id_length =
     ap₂ (λ t s. id_length_at t s (octets f ++ z)) p.id_there p.short
-    ∙ id_told f.short f.payload_length f.id_length (header f) f.kind_length z in
+    ∙ id_reported f.short f.payload_length f.id_length (header f) f.kind_length z in
     λ j. record {
       first = p.begins j;
       last = p.ends j;
@@ -72,12 +72,12 @@ head_is_known f z l =
 -- ---- pieces
 
 -- what follows the head of a piece
-abbrev behind_head : Piece → List ℕ → List ℕ
-behind_head p rest = p.kind ++ (unwrap_or p.id [] ++ (p.payload ++ rest))
+abbrev after_head : Piece → List ℕ → List ℕ
+after_head p rest = p.kind ++ (unwrap_or p.id [] ++ (p.payload ++ rest))
 
--- its head, and what follows it
+-- its head, and the rest after it
 head_first : (p : Piece) (short : Bool) (front rest : List ℕ) → SpellsPiece p short front
-    → front ++ rest ≡ octets (fields p short) ++ behind_head p rest
+    → front ++ rest ≡ octets (fields p short) ++ after_head p rest
 head_first p short front rest s =
     ap (λ x. x ++ rest) s.spelled
     ∙ append_assoc (octets (fields p short)) (body p) rest
@@ -93,9 +93,9 @@ same_piece : (p : Piece) (short : Bool) (k i n : List ℕ) → k ≡ p.kind → 
 same_piece p short k i n e1 e2 e3 = rw (e1, e2, e3) (ap (λ x. record p { id = x }) (id_is_same p.id))
 
 -- what follows its head determines it
-parts_told : (p : Piece) (short : Bool) (rest : List ℕ) → piece_with (fields p short) (behind_head p rest) ≡ p
-parts_told p short rest =
-    let z = behind_head p rest in
+parts_reported : (p : Piece) (short : Bool) (rest : List ℕ) → piece_with (fields p short) (after_head p rest) ≡ p
+parts_reported p short rest =
+    let z = after_head p rest in
     let n = id_count p.id in
     let d1 : drop (length p.kind) z ≡ unwrap_or p.id [] ++ (p.payload ++ rest) = drop_at p.kind _ _ refl in
     let d2 : drop (unwrap_or (option_map length p.id) 0) (drop (length p.kind) z) ≡ p.payload ++ rest =
@@ -105,23 +105,24 @@ parts_told p short rest =
     (ap (take (length p.payload)) d2 ∙ take_at p.payload rest _ refl)
 
 -- the octets of a piece determine it, whatever follows
-piece_told : (p : Piece) (short : Bool) (front rest : List ℕ) → SpellsPiece p short front → piece_at (front ++ rest) ≡ p
+piece_reported : (p : Piece) (short : Bool) (front rest : List ℕ) → SpellsPiece p short front
+    → piece_at (front ++ rest) ≡ p
 unfolding piece_at
-piece_told p short front rest s =
+piece_reported p short front rest s =
     let f = fields p short in
-    let z = behind_head p rest in
+    let z = after_head p rest in
     let l = piece_head p short front s in
-    let behind : drop (size (header f)) (octets f ++ z) ≡ z = drop_at (octets f) z _ (octets_size f l.tnf) in
-    ap piece_at (head_first p short front rest s) ∙ ap₂ piece_with (head_is_known f z l) behind
-    ∙ parts_told p short rest
+    let following : drop (size (header f)) (octets f ++ z) ≡ z = drop_at (octets f) z _ (octets_size f l.tnf) in
+    ap piece_at (head_first p short front rest s) ∙ ap₂ piece_with (head_is_known f z l) following
+    ∙ parts_reported p short rest
 
 -- the octets of a piece determine their number, whatever follows
-size_told : (p : Piece) (short : Bool) (front rest : List ℕ) → SpellsPiece p short front
+size_reported : (p : Piece) (short : Bool) (front rest : List ℕ) → SpellsPiece p short front
     → size_at (front ++ rest) ≡ length front
 unfolding size_at
-size_told p short front rest s =
+size_reported p short front rest s =
     let f = fields p short in
-    let z = behind_head p rest in
+    let z = after_head p rest in
     let l = piece_head p short front s in
     let n = id_count p.id in
     let a : size_at (octets f ++ z) ≡ size (header f) + body_size f = ap (λ f'. size (header f) + body_size f')
@@ -131,14 +132,14 @@ size_told p short front rest s =
     let m = body_length p in
     ap size_at (head_first p short front rest s) ∙ a ∙ omega (arith, n, o, whole, m)
 
--- the bytes determine the piece at their front, and what follows it
+-- the bytes determine the piece at their front, and the rest after it
 pub same_split : (p q : Piece) (s t : Bool) (x y bytes : List ℕ) → IsSplit p s x bytes → IsSplit q t y bytes → (p ≡ q)
     × (x ≡ y)
 same_split p q s t x y bytes a b =
     let e : a.front ++ x ≡ b.front ++ y = sym a.joined ∙ b.joined in
-    let n : length a.front ≡ length b.front = sym (size_told p s a.front x a.spells) ∙ ap size_at e
-    ∙ size_told q t b.front y b.spells in (
-      sym (piece_told p s a.front x a.spells) ∙ ap piece_at e ∙ piece_told q t b.front y b.spells,
+    let n : length a.front ≡ length b.front = sym (size_reported p s a.front x a.spells) ∙ ap size_at e
+    ∙ size_reported q t b.front y b.spells in (
+      sym (piece_reported p s a.front x a.spells) ∙ ap piece_at e ∙ piece_reported q t b.front y b.spells,
       (cut_alike a.front b.front x y n e).1,
     )
 
@@ -163,34 +164,34 @@ pieces_step (b ∷ bytes) h n =
     ap (λ ps. piece_at (b ∷ bytes) ∷ ps) (pieces_skip (size_at (b ∷ bytes) - 1) bytes
     ∙ ap pieces_of (sym (drop_one (size_at (b ∷ bytes)) b bytes n)))
 
-first_told : (p : Piece) (short : Bool) (front rest : List ℕ) → SpellsPiece p short front
+first_reported : (p : Piece) (short : Bool) (front rest : List ℕ) → SpellsPiece p short front
     → pieces_of (front ++ rest) ≡ p ∷ pieces_of rest
-first_told p short front rest s =
+first_reported p short front rest s =
     let some = front_is_some p short front s in
-    let n = size_told p short front rest s in
+    let n = size_reported p short front rest s in
     let k = length-append front rest in
     pieces_step (front ++ rest) (omega (arith, some, k)) (omega (arith, some, n))
-    ∙ ap₂ (λ q r. q ∷ pieces_of r) (piece_told p short front rest s) (drop_at front rest _ (sym n))
+    ∙ ap₂ (λ q r. q ∷ pieces_of r) (piece_reported p short front rest s) (drop_at front rest _ (sym n))
 
-pub pieces_told : (ps : List Piece) (bytes : List ℕ) → SpellsPieces ps bytes → pieces_of bytes ≡ ps
-pieces_told [] bytes e = ap pieces_of e
-pieces_told (p ∷ ps) bytes (short, front, rest, e, s, more) =
-    ap pieces_of e ∙ first_told p short front rest s ∙ ap (λ qs. p ∷ qs) (pieces_told ps rest more)
+pub pieces_reported : (ps : List Piece) (bytes : List ℕ) → SpellsPieces ps bytes → pieces_of bytes ≡ ps
+pieces_reported [] bytes e = ap pieces_of e
+pieces_reported (p ∷ ps) bytes (short, front, rest, e, s, more) =
+    ap pieces_of e ∙ first_reported p short front rest s ∙ ap (λ qs. p ∷ qs) (pieces_reported ps rest more)
 
 -- ---- runs
 begin_alone : (p : Piece) (rs : List Run) → p.chunked ≡ false → begin_run p rs ≡ record { initial = p; later = [] } ∷ rs
 begin_alone p [] c = refl
 begin_alone p (r ∷ rs) c = rw c refl
 
-pub run_told : (p : Piece) (later rest : List Piece) → Follow p.chunked later
+pub run_reported : (p : Piece) (later rest : List Piece) → Follow p.chunked later
     → runs_of ((p ∷ later) ++ rest) ≡ record { initial = p; later = later } ∷ runs_of rest
-run_told p [] rest c = begin_alone p (runs_of rest) c
-run_told p (q ∷ later) rest (c, l, more) = ap (begin_run p) (run_told q later rest more) ∙ rw c refl
+run_reported p [] rest c = begin_alone p (runs_of rest) c
+run_reported p (q ∷ later) rest (c, l, more) = ap (begin_run p) (run_reported q later rest more) ∙ rw c refl
 
-pub runs_told : (rs : List Run) → AllByRecursion (λ r. Follow r.initial.chunked r.later) rs
+pub runs_reported : (rs : List Run) → AllByRecursion (λ r. Follow r.initial.chunked r.later) rs
     → runs_of (all_pieces rs) ≡ rs
-runs_told [] h = refl
-runs_told (r ∷ rs) h = run_told r.initial r.later (all_pieces rs) h.0 ∙ ap (λ x. r ∷ x) (runs_told rs h.1)
+runs_reported [] h = refl
+runs_reported (r ∷ rs) h = run_reported r.initial r.later (all_pieces rs) h.0 ∙ ap (λ x. r ∷ x) (runs_reported rs h.1)
 
 pub follow_of_read : (rs : List Run) → AllByRecursion IsSeenRecord rs
     → AllByRecursion (λ r. Follow r.initial.chunked r.later) rs
@@ -203,17 +204,17 @@ follow_of_run profile [] h = tt
 follow_of_run profile (r ∷ rs) h = (h.0.follow, follow_of_run profile rs h.1)
 
 -- the bytes of a message determine its runs
-pub flat_told : (profile : Profile) (rs : List Run) (items : List Item) (bytes : List ℕ)
+pub flat_reported : (profile : Profile) (rs : List Run) (items : List Item) (bytes : List ℕ)
     → SpellsBy profile rs items bytes → runs_of (pieces_of bytes) ≡ rs
-flat_told profile rs items bytes f = ap runs_of (pieces_told (all_pieces rs) bytes f.spelled)
-    ∙ runs_told rs (follow_of_run profile rs f.message.each_run)
+flat_reported profile rs items bytes f = ap runs_of (pieces_reported (all_pieces rs) bytes f.spelled)
+    ∙ runs_reported rs (follow_of_run profile rs f.message.each_run)
 
 -- the bytes of a run determine it
 pub run_is : (r : Run) (bytes : List ℕ) → SpellsPieces (pieces r) bytes → run_of bytes ≡ r
 run_is r bytes (short, front, rest, e, s, more) =
-    let n = size_told r.initial short front rest s in
-    ap run_of e ∙ ap₂ (λ p ps. record { initial = p; later = ps }) (piece_told r.initial short front rest s)
-    (ap pieces_of (drop_at front rest _ (sym n)) ∙ pieces_told r.later rest more)
+    let n = size_reported r.initial short front rest s in
+    ap run_of e ∙ ap₂ (λ p ps. record { initial = p; later = ps }) (piece_reported r.initial short front rest s)
+    (ap pieces_of (drop_at front rest _ (sym n)) ∙ pieces_reported r.later rest more)
 
 -- ---- the first of some pieces
 
@@ -241,10 +242,10 @@ pub first_shown : {p : Piece} {ps : List Piece} {bytes : List ℕ} (f : First p 
     (x : List ℕ) → IsSplit q short x bytes → (q ≡ p) × (x ≡ f.rest)
 first_shown {p} {ps} {bytes} f q short x i = same_split q p short f.short x f.rest bytes i f.split
 
--- what is known after it
-pub told_behind : {p : Piece} {ps : List Piece} {bytes : List ℕ} (f : First p ps bytes)
+-- the state after it
+pub reported_after : {p : Piece} {ps : List Piece} {bytes : List ℕ} (f : First p ps bytes)
     → pieces_of bytes ≡ p ∷ pieces_of f.rest
-told_behind {p} f = ap pieces_of f.split.joined ∙ first_told p f.short f.split.front f.rest f.split.spells
+reported_after {p} f = ap pieces_of f.split.joined ∙ first_reported p f.short f.split.front f.rest f.split.spells
 
 -- something of it is taken
 pub shorter : {p : Piece} {ps : List Piece} {bytes : List ℕ} (f : First p ps bytes) → length f.rest < length bytes

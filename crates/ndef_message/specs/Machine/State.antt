@@ -1,4 +1,4 @@
--- What the fields of a checker say of the bytes that led there.
+-- The relation between the fields of a checker and the bytes that it took.
 use Rattle.std.specs.Prelude.{◌≡◌, ◌≢◌, ◌+◌, ◌-◌, ◌≤◌, ◌==◌, ◌||◌, nat_lt, ℕ, Bool, true, false, List, [], ◌∷◌, ◌++◌, length, Option, Some, None, is_some, unwrap_or, ⊤, ◌⊎◌, ◌↔◌, if◌then◌else◌}
 use Rattle.std.specs.List.{AllByRecursion}
 use Rattle.ndef_lang.specs.Machine.TypeName.{name_of}
@@ -16,7 +16,7 @@ use Rattle.ndef_piece.specs.declared.head_reader.Step.TheVariants as steps
 use Rattle.ndef_piece.specs.declared.bounds.Bounds.{Bounds}
 use Rattle.ndef_piece.specs.Heads as heads
 use Rattle.ndef_piece.specs.Heads.{head, BeginsHead}
-use Rattle.ndef_format.specs.Positions.{MayStand, record_so_far}
+use Rattle.ndef_format.specs.Positions.{MayOccur, record_so_far}
 use Rattle.ndef_piece.specs.Walk.{Before, start, spot, Walked}
 use Rattle.ndef_format.specs.Accepted.{IsMember, IsViable}
 use Rattle.ndef_message.specs.Machine.Points.{Point, InHead, InType, InId, InPayload, AtEnd, part_octets, IsPartAt, IsAtPoint, IsReasonAt}
@@ -29,7 +29,7 @@ use Rattle.ndef_message.specs.declared.state.State.{State}
 use Rattle.ndef_message.specs.declared.fed.Fed.{Fed}
 use Rattle.ndef_message.specs.declared.fed.Fed.TheVariants as fed
 
--- what is kept of what is known before a piece
+-- what is kept of the state before a piece
 abbrev pub numbers : Before → Place
 numbers c = record { first = c.first; inside = is_some c.begun; records = c.records; pieces = c.pieces; room = c.room }
 
@@ -45,9 +45,9 @@ spot_of profile p =
       room = p.room;
     }
 
--- what is kept after a record
-abbrev pub behind_record : LimitValues → Place → Place
-behind_record limits p = record {
+-- the kept state after a record
+abbrev pub after_record : LimitValues → Place → Place
+after_record limits p = record {
   first = false;
   inside = false;
   records = p.records - 1;
@@ -55,9 +55,9 @@ behind_record limits p = record {
   room = limits.payload;
 }
 
--- what is kept after a piece with this number of payload octets, after which its record continues
-abbrev pub behind_chunk : Place → ℕ → Place
-behind_chunk p n = record {
+-- the kept state after a piece with this number of payload octets, after which its record continues
+abbrev pub past_chunk : Place → ℕ → Place
+past_chunk p n = record {
   first = false;
   inside = true;
   records = p.records;
@@ -65,11 +65,11 @@ behind_chunk p n = record {
   room = p.room - n;
 }
 
--- what is kept after a piece with this head
+-- the kept state after a piece with this head
 abbrev pub next : LimitValues → Place → Head → Place
-next limits p h = if h.chunked then behind_chunk p h.payload_length else behind_record limits p
+next limits p h = if h.chunked then past_chunk p h.payload_length else after_record limits p
 
--- what comes after a piece with this head
+-- the phase after a piece with this head
 abbrev pub phase_after : Head → Phase
 phase_after h = if h.chunked then phases.Head else (if h.last then phases.Done else phases.Head)
 
@@ -78,7 +78,7 @@ abbrev pub is_done : Phase → Bool
 is_done phases.Done = true
 is_done _ = false
 
--- the number of some bytes that were accepted and led to this phase: all, or all but a refused one
+-- the number of accepted bytes among some bytes before this phase: all, or all but a refused one
 abbrev pub accepted : Phase → ℕ → ℕ
 accepted (phases.Refused refusal) count = count - 1
 accepted _ count = count
@@ -92,7 +92,7 @@ abbrev pub SomeHead : (List ℕ → Type 0) → Spot → List ℕ → Type 0
 SomeHead pass spot xs = (f : HeadFields) × BeginsHead spot xs f
     × PassesBetween pass f.payload_length (most_left f.chunked spot.room f.payload_length f.payload_length)
 
--- the reader stands within a head that can go on
+-- the reader is within a head that can go on
 abbrev pub IsWithinHead : {L : Type 0} → State L → Type 0
 IsWithinHead state = (state.reader.octets ≢ []) × (state.reader.spot.room ≡ state.place.room)
     × heads.IsViableHead state.reader.spot state.reader.octets
@@ -131,7 +131,7 @@ module _ {L : Type 0} (language : Ghosts L) (limits : LimitValues) (state : Stat
   Matches (AtEnd c) = (state.place ≡ numbers c) × (state.phase ≡ phases.Done)
 
   -- these bytes led here, and none was refused
-  pub record Stands (bytes : List ℕ) (given : List Item) (point : Point) : Type 0 where
+  pub record IsConsistentAt (bytes : List ℕ) (given : List Item) (point : Point) : Type 0 where
     pub at : IsAtPoint limits bytes given point
     pub viable : IsViable language.payloads limits bytes
     pub matches : Matches point
@@ -153,18 +153,18 @@ module _ {L : Type 0} (language : Ghosts L) (limits : LimitValues) (state : Stat
   -- these bytes led here: they end these records, and this is the point before the next byte, or before the one that
   -- was refused
   abbrev pub Reached : List ℕ → List Item → Point → Type 0
-  Reached bytes given point = Stands bytes given point ⊎ Stopped bytes given point
+  Reached bytes given point = IsConsistentAt bytes given point ⊎ Stopped bytes given point
 
   -- these bytes led after these parts of a piece
-  abbrev pub StandsBehind : List ℕ → List Item → Before → HeadFields → (kind id payload : List ℕ) → Type 0
-  StandsBehind bytes given c f kind id payload =
-      Stands bytes (given_next limits given c f kind id payload) (point_next limits c f kind id payload)
+  abbrev pub LiesAfter : List ℕ → List Item → Before → HeadFields → (kind id payload : List ℕ) → Type 0
+  LiesAfter bytes given c f kind id payload =
+      IsConsistentAt bytes (given_next limits given c f kind id payload) (point_next limits c f kind id payload)
 
   -- after octets of the field that follows these bytes: all of them lead on, or the last of them was refused
   abbrev pub Onward : List ℕ → List Item → Point → List ℕ → Type 0
   Onward bytes given point t =
       ((given' : List Item) × (point' : Point) × Moves limits given point t given' point'
-      × Stands (bytes ++ t) given' point')
+      × IsConsistentAt (bytes ++ t) given' point')
       ⊎ ((s : List ℕ) × (b : ℕ) × (t ≡ s ++ b ∷ []) × Stopped (bytes ++ t) given (point_with point s))
 
   -- where so much is left of the id and the payload of a piece with this head
@@ -186,7 +186,7 @@ module _ {L : Type 0} (language : Ghosts L) (limits : LimitValues) (state : Stat
     pub place_is : state.place ≡ numbers c
     pub speaks : Speaks language limits state.payload (record_so_far c.begun f kind id payload)
 
-  -- some bytes led there
+  -- the state after some bytes, within the body of a piece
   pub record SomeBody (h : Head) (id_left left : ℕ) : Type 0 where
     pub bytes : List ℕ
     pub given : List Item
@@ -205,12 +205,12 @@ module _ {L : Type 0} (language : Ghosts L) (limits : LimitValues) (state : Stat
     pub spelled : SpellsPieces pieces done
     pub split : bytes ≡ done ++ octets f
     pub goes_on : c.over ≡ false
-    pub stands : MayStand (spot limits.profile c) f
+    pub stands : MayOccur (spot limits.profile c) f
     pub head_is : h ≡ head f
     pub place_is : state.place ≡ numbers c
     pub speaks : SpeaksIf language limits state.payload c.begun
 
-  -- some bytes led to a whole head
+  -- the state after some bytes, which end with a whole head
   pub record SomeWhole (h : Head) : Type 0 where
     pub bytes : List ℕ
     pub given : List Item
@@ -230,8 +230,8 @@ pub record Came {L : Type 0} (language : Ghosts L) (limits : LimitValues) (refus
 abbrev pub unfit_at : ℕ → Refusal
 unfit_at at = record { at = at; reason = DoesNotFit }
 
--- what is said of bytes that end these records and lead after parts of a piece, or after a whole head, by what is
--- known before the piece
+-- a statement about bytes that end these records and then have parts of a piece, or a whole head, by the state
+-- before the piece
 abbrev pub Bodies : Type 1
 Bodies = List ℕ → List Item → Before → HeadFields → (kind id payload : List ℕ) → Type 0
 
@@ -239,37 +239,37 @@ abbrev pub WholeHeads : Type 1
 WholeHeads = List ℕ → List Item → Before → HeadFields → Type 0
 
 module _ {L : Type 0} (language : Ghosts L) (limits : LimitValues) (new : State L) where
-  -- it stands after such parts of a piece, where the bytes can be completed
-  abbrev pub SettlesBehind : Bodies → Type 0
-  SettlesBehind body = (bytes : List ℕ) (given : List Item) (c : Before) (f : HeadFields) (kind id payload : List ℕ)
+  -- its state is after such parts of a piece, if the bytes can be completed
+  abbrev pub SettlesAfter : Bodies → Type 0
+  SettlesAfter body = (bytes : List ℕ) (given : List Item) (c : Before) (f : HeadFields) (kind id payload : List ℕ)
       → body bytes given c f kind id payload → IsViable language.payloads limits bytes
-      → StandsBehind language limits new bytes given c f kind id payload
+      → LiesAfter language limits new bytes given c f kind id payload
 
-  -- it stands after them, or has refused the last octet of them
-  abbrev pub EntersBehind : (at : ℕ) → Bodies → Type 0
-  EntersBehind at body = (bytes : List ℕ) (given : List Item) (point : Point) (b : ℕ) (c : Before) (f : HeadFields)
+  -- its state is after them, or it has refused the last octet of them
+  abbrev pub EntersAfter : (at : ℕ) → Bodies → Type 0
+  EntersAfter at body = (bytes : List ℕ) (given : List Item) (point : Point) (b : ℕ) (c : Before) (f : HeadFields)
       (kind id payload : List ℕ) → Came language limits (unfit_at at) bytes given point b
       → body (bytes ++ b ∷ []) given c f kind id payload
-      → StandsBehind language limits new (bytes ++ b ∷ []) given c f kind id payload
+      → LiesAfter language limits new (bytes ++ b ∷ []) given c f kind id payload
       ⊎ Stopped language limits new (bytes ++ b ∷ []) given point
 
-  -- it stands after such a whole head, where the records have payloads of their kinds
-  abbrev pub BeginsBehind : WholeHeads → Type 0
-  BeginsBehind head = (bytes : List ℕ) (given : List Item) (c : Before) (f : HeadFields) → head bytes given c f
+  -- its state is after such a whole head, if the records have payloads of their kinds
+  abbrev pub BeginsAfter : WholeHeads → Type 0
+  BeginsAfter head = (bytes : List ℕ) (given : List Item) (c : Before) (f : HeadFields) → head bytes given c f
       → AllByRecursion (IsMember language.payloads limits) given
-      → StandsBehind language limits new bytes given c f [] [] []
+      → LiesAfter language limits new bytes given c f [] [] []
 
-  -- it stands after such a whole head, or has refused the last octet of it
-  abbrev pub GoesBehind : (at : ℕ) → WholeHeads → Type 0
-  GoesBehind at head = (bytes : List ℕ) (given : List Item) (point : Point) (b : ℕ) (c : Before) (f : HeadFields)
+  -- its state is after such a whole head, or it has refused the last octet of it
+  abbrev pub AdvancesPast : (at : ℕ) → WholeHeads → Type 0
+  AdvancesPast at head = (bytes : List ℕ) (given : List Item) (point : Point) (b : ℕ) (c : Before) (f : HeadFields)
       → Came language limits (unfit_at at) bytes given point b → head (bytes ++ b ∷ []) given c f
-      → StandsBehind language limits new (bytes ++ b ∷ []) given c f [] [] []
+      → LiesAfter language limits new (bytes ++ b ∷ []) given c f [] [] []
       ⊎ Stopped language limits new (bytes ++ b ∷ []) given point
 
--- these bytes, `taken` in number, led there
-abbrev pub Knows : {L : Type 0} (language : Ghosts L) → LimitValues → State L → (taken : ℕ) → List ℕ → List Item → Point
-    → Type 0
-Knows language limits state taken bytes given point = (taken ≡ length bytes)
+-- the state is that after these bytes, `taken` in number
+abbrev pub MatchesInput : {L : Type 0} (language : Ghosts L) → LimitValues → State L → (taken : ℕ) → List ℕ → List Item
+    → Point → Type 0
+MatchesInput language limits state taken bytes given point = (taken ≡ length bytes)
     × Reached language limits state bytes given point
 
 -- the answer that a phase gives before it sees another byte

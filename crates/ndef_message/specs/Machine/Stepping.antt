@@ -1,4 +1,4 @@
--- What the functions answer that write a record in steps.
+-- The results of the functions that write a record in steps.
 use Rattle.std.specs.Prelude.{nat_lt, ◌&&◌, ◌==◌, if◌then◌else◌, ◌≡◌, ℕ, ◌+◌, ◌≤◌, true, List, ◌++◌, length, take, drop, ◌⊎◌}
 use Rattle.ndef_message.specs.Steps.{chunk_begin, front_length, is_over}
 use Rattle.ndef_message.specs.declared.plan.Progress.{Progress}

@@ -1,4 +1,4 @@
--- What a source over a reader and a sink over a writer show.
+-- The state that a source over a reader and a sink over a writer show.
 use Rattle.std.specs.Prelude.{◌-◌, ℕ, Bool, List, Option, slice_range}
 use Rattle.std.specs.declared.io.traits.BufRead.{Ghosts as BufferedOf}
 use Rattle.std.specs.declared.io.traits.Read.{Ghosts as ReadingOf}
@@ -37,7 +37,7 @@ abbrev pub reader_failed : {R : Type 0} {buffered : BufferedOf R} {reading : Rea
     → Bool
 reader_failed s = s.has_failed
 
--- what its reader has left
+-- the bytes that its reader has left
 abbrev pub reader_left : {R : Type 0} {buffered : BufferedOf R} {reading : ReadingOf R} → StdSource R buffered reading
     → Option (List ℕ)
 reader_left {reading = reading} s = reading.remaining s.reader

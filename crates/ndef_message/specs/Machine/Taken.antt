@@ -1,10 +1,10 @@
--- What a checker was fed, and what a decoder has read, by the states of their machines.
+-- The bytes that a checker was fed, and those that a decoder has read, by the states of their machines.
 use Rattle.std.specs.Prelude.{◌≡◌, ℕ, ◌≤◌, ◌⊎◌, List, length, take}
 use Rattle.ndef_format.specs.Limits.{LimitValues}
 use Rattle.ndef_format.specs.Payloads.{Sets}
 use Rattle.ndef_format.specs.Accepted.{IsAccepted, IsViable}
 use Rattle.ndef_lang.specs.declared.record_language.RecordLanguage.{Ghosts}
-use Rattle.ndef_message.specs.Machine.Fronts.{Fronts, Leads}
+use Rattle.ndef_message.specs.Machine.Fronts.{Fronts, IsReachable}
 use Rattle.ndef_message.specs.Machine.Checkers.{CheckerReached, checker_limits}
 use Rattle.ndef_message.specs.Machine.Decoders.{DecoderReached, decoder_limits, has_failed}
 use Rattle.ndef_message.specs.Machine.Points.{Point}
@@ -12,13 +12,13 @@ use Rattle.ndef_message.specs.Decoding.{SoFar}
 use Rattle.ndef_message.specs.declared.checker.Checker.{Checker}
 use Rattle.ndef_message.specs.declared.decoder.Decoder.{Decoder}
 
--- Some of the bytes led there: all of them, or the first that are a message, or the first that can't be completed to
--- one.
+-- Some of the bytes were taken: all of them, or the first that are a message, or the first that can't be completed
+-- to one.
 pub record HaveCome {Point : Type 0} (set : Sets) (limits : LimitValues) (reached : Fronts Point)
     (bytes : List ℕ) : Type 0 where
   pub count : ℕ
   pub within : count ≤ length bytes
-  pub led : Leads reached (take count bytes)
+  pub led : IsReachable reached (take count bytes)
   pub settled : (count ≡ length bytes) ⊎ IsAccepted set limits (take count bytes)
       ⊎ (¬ IsViable set limits (take count bytes))
 
@@ -32,13 +32,13 @@ abbrev pub HasRead : {L : Type 0} {language : Ghosts L} → Decoder L language �
 HasRead d limits s = (decoder_limits d ≡ limits) × (has_failed d ≡ s.failed)
     × ((point : Point) × DecoderReached d s.bytes s.records point)
 
--- whatever a checker was fed, with its limits: this holds of them
-abbrev pub WhateverFed : {L : Type 0} {language : Ghosts L} → Checker L language → (LimitValues → List ℕ → Type 0)
+-- for anything that a checker was fed, with its limits: this holds of it
+abbrev pub ForEachFed : {L : Type 0} {language : Ghosts L} → Checker L language → (LimitValues → List ℕ → Type 0)
     → Type 0
-WhateverFed {language = language} c claim =
+ForEachFed {language = language} c claim =
     (limits : LimitValues) (bytes : List ℕ) → WasFed c limits bytes → claim limits bytes
 
--- whatever a decoder has read, with its limits: this holds of it
-abbrev pub WhateverRead : {L : Type 0} {language : Ghosts L} → Decoder L language → (LimitValues → SoFar → Type 0)
+-- for anything that a decoder has read, with its limits: this holds of it
+abbrev pub ForEachRead : {L : Type 0} {language : Ghosts L} → Decoder L language → (LimitValues → SoFar → Type 0)
     → Type 0
-WhateverRead d claim = (limits : LimitValues) (so_far : SoFar) → HasRead d limits so_far → claim limits so_far
+ForEachRead d claim = (limits : LimitValues) (so_far : SoFar) → HasRead d limits so_far → claim limits so_far

@@ -1,4 +1,4 @@
--- What is read and checked of a source, turn by turn.
+-- The bytes that are read and checked of a source, turn by turn.
 use Rattle.std.specs.Prelude.{◌≡◌, ◌<◌, ◌≤◌, ◌-◌, ℕ, true, false, List, [], ◌++◌, length, take, IfSome}
 use Rattle.ndef_format.specs.Limits.{LimitValues}
 use Rattle.ndef_format.specs.Accepted.{IsAccepted, IsViable}
@@ -6,14 +6,14 @@ use Rattle.ndef_format.specs.Refusals.{Refuses}
 use Rattle.ndef_lang.specs.declared.record_language.RecordLanguage.{Ghosts}
 use Rattle.ndef_message.specs.Decoding.{SoFar, onward}
 use Rattle.ndef_message.specs.Machine.Checkers.{CheckerReached, checker_limits}
-use Rattle.ndef_message.specs.Machine.Fronts.{Leads, WhateverLed}
+use Rattle.ndef_message.specs.Machine.Fronts.{IsReachable, ForEachInput}
 use Rattle.ndef_message.specs.Sources.{Gave, SourceState}
 use Rattle.ndef_message.specs.declared.checker.Checker.{Checker}
 use Rattle.ndef_message.specs.declared.event.Event.{Event}
-use Rattle.ndef_message.specs.declared.message_checking.Look.{Look}
-use Rattle.ndef_message.specs.declared.message_checking.Look.TheVariants as looks
-use Rattle.ndef_message.specs.declared.message_reading.Turn.{Turn}
-use Rattle.ndef_message.specs.declared.message_reading.Turn.TheVariants as turns
+use Rattle.ndef_message.specs.declared.message_checking.CheckStep.{CheckStep}
+use Rattle.ndef_message.specs.declared.message_checking.CheckStep.TheVariants as looks
+use Rattle.ndef_message.specs.declared.message_reading.ReadStep.{ReadStep}
+use Rattle.ndef_message.specs.declared.message_reading.ReadStep.TheVariants as turns
 
 -- the source showed these bytes, and this many of them were taken
 pub record Shown (before after : SourceState) (bytes : List ℕ) (count : ℕ) : Type 0 where
@@ -22,10 +22,10 @@ pub record Shown (before after : SourceState) (bytes : List ℕ) (count : ℕ) :
   pub begins : IfSome before.coming (λ input. (rest : List ℕ) × (input ≡ bytes ++ rest))
   pub taken : Gave before after (take count bytes)
 
--- What a turn did that began with what was read so far: the source failed, or has ended, or some of the bytes that it
--- showed were taken, and this was answered to them.
+-- The result of a turn from the bytes read so far: the source failed, or has ended, or some of the bytes that it
+-- showed were taken, and this was the answer to them.
 abbrev pub Turned : (new : SoFar → Type 0) → (brings : List ℕ → ℕ → Event → Type 0) → SoFar
-    → (before after : SourceState) → Turn → Type 0
+    → (before after : SourceState) → ReadStep → Type 0
 Turned new brings s before after turns.Fault = (after.failed ≡ true) × (after.taken ≡ before.taken)
 Turned new brings s before after turns.End =
     (after.failed ≡ false) × Gave before after [] × IfSome before.coming (λ input. input ≡ []) × new s
@@ -33,10 +33,10 @@ Turned new brings s before after (turns.Fed event) =
     (after.failed ≡ false) × (bytes : List ℕ) × (count : ℕ) × Shown before after bytes count
     × brings bytes count event × new (onward s bytes count event)
 
--- What a turn did after a front: the source failed, or has ended, or the bytes that it showed go on, or some of them
--- end the message, or one of them is refused.
+-- The result of a turn after a front: the source failed, or has ended, or the bytes that it showed go on, or some of
+-- them end the message, or one of them is refused.
 abbrev pub Looked : {L : Type 0} → Ghosts L → LimitValues → (new : List ℕ → Type 0) → (front : List ℕ)
-    → (before after : SourceState) → Look → Type 0
+    → (before after : SourceState) → CheckStep → Type 0
 Looked language limits new front before after looks.Fault = (after.failed ≡ true) × (after.taken ≡ before.taken)
 Looked language limits new front before after looks.End =
     (after.failed ≡ false) × Gave before after [] × IfSome before.coming (λ input. input ≡ []) × new front
@@ -52,9 +52,9 @@ Looked language limits new front before after (looks.Refused refusal) =
     × (refusal.at < length (front ++ bytes))
     × Refuses language.payloads language.reasons limits (front ++ bytes) refusal
 
--- what a turn of a checker did, after any front that can be completed
+-- the result of a turn of a checker, after any front that can be completed
 abbrev pub LooksOn : {L : Type 0} {language : Ghosts L} (old new : Checker L language) → (before after : SourceState)
-    → Look → Type 0
-LooksOn {language = language} old new before after look = WhateverLed (CheckerReached old) (λ front given point.
+    → CheckStep → Type 0
+LooksOn {language = language} old new before after look = ForEachInput (CheckerReached old) (λ front given point.
     IsViable language.payloads (checker_limits old) front
-    → Looked language (checker_limits old) (Leads (CheckerReached new)) front before after look)
+    → Looked language (checker_limits old) (IsReachable (CheckerReached new)) front before after look)

@@ -1,4 +1,4 @@
--- What completes the payload that a nest reads, and its possible lengths.
+-- The completions of the payload that a nest reads, and their possible lengths.
 use Rattle.std.specs.Prelude.{◌≡◌, ℕ, ◌^◌, ◌<◌, ◌≤◌, Bool, false, List, [], ◌∷◌, ◌↔◌, ◌⊎◌}
 use Rattle.ndef_format.specs.declared.spot.Spot.{Spot}
 use Rattle.ndef_format.specs.declared.kind.Kind.{Kind}
@@ -16,7 +16,7 @@ use Rattle.ndef_nest.specs.Machine.Phases.{Completes, fits, head_span, is_first_
 use Rattle.ndef_nest.specs.Machine.Reached.{HasCome, IsReached}
 use Rattle.ndef_nest.specs.Machine.Spans.{PassesAt, IsSpan}
 
--- what completes the octets so far
+-- the octets that complete the octets so far
 abbrev pub future : Nest → List ℕ → Type 0
 future n r = Completes n.context n.reader.spot.first n.reader.octets n.phase r
 
@@ -24,20 +24,20 @@ future n r = Completes n.context n.reader.spot.first n.reader.octets n.phase r
 abbrev pub nest_fits : Nest → ℕ → ℕ → Bool
 nest_fits n = fits n.context n.reader.spot.first n.reader.octets n.phase
 
--- the range of what completes a message that has begun, and of what completes its open head
+-- the ranges of the octets that complete a message that has begun, and of those that complete its open head
 abbrev pub nest_span : Nest → ℕ × ℕ
 nest_span n = span_of n.context n.reader.spot.first n.reader.octets n.phase
 
 abbrev pub nest_head_span : Nest → ℕ × ℕ
 nest_head_span n = head_span n.context n.reader.spot.first n.reader.octets
 
--- where a record would stand that begins with the next octet
+-- the spot of a record that begins with the next octet
 abbrev pub nest_spot : Nest → Spot
 nest_spot n = nested_spot n.context.profile (is_first_octet n.phase n.reader.spot.first) n.context.records
 
 -- the reason of the octet taken last
-abbrev pub nest_told : Nest → Reason
-nest_told n = n.told
+abbrev pub nest_reason : Nest → Reason
+nest_reason n = n.reason
 
 -- the octets of the message so far, once it has begun
 abbrev pub come : Nest → ℕ → List ℕ → Type 0
@@ -50,8 +50,8 @@ reached n kind records profile s =
     × IsReached n.context n.reader.spot.first n.reader.octets n.phase records s
 
 -- the same, where no octet of a head has come
-abbrev pub reached_behind : Context → NestPhase → Kind → ℕ → Profile → List ℕ → Type 0
-reached_behind c phase kind records profile s =
+abbrev pub reached_after : Context → NestPhase → Kind → ℕ → Profile → List ℕ → Type 0
+reached_after c phase kind records profile s =
     (c.table ≡ table_of kind) × (c.profile ≡ profile) × IsReached c false [] phase records s
 
 -- the lengths below 2 ^ 32 of the lists that pass are one number, and all from another on
@@ -68,19 +68,19 @@ IsVersionedSelect n = (n.context.table ≡ Select) × (n.phase ≡ phases.Start)
 
 -- ---- laws
 
--- The lengths of what completes a payload are those from a least to a greatest, or none. The only exceptions are a
+-- The numbers of octets that complete a payload are those from a least to a greatest, or none. The exceptions are a
 -- select before its version octet, of 1 octet or 4 and more, and after it, of 0 or 3 and more.
 abbrev pub LengthsHaveRanges : Type 0
 LengthsHaveRanges = (n : Nest)
     → ((span : ℕ × ℕ) × IsSpan (future n) span) ⊎ (IsUnreadSelect n × IsGap (future n) 1 4)
     ⊎ (IsVersionedSelect n × IsGap (future n) 0 3)
 
--- No octet has led to a select before its version octet, and one octet to a select after it.
-abbrev pub SelectsAreTold : Type 0
-SelectsAreTold = (n : Nest) (kind : Kind) (records : ℕ) (profile : Profile) (s : List ℕ)
+-- A select before its version octet has taken no octet, and one after it has taken one octet.
+abbrev pub SelectRangesAreExact : Type 0
+SelectRangesAreExact = (n : Nest) (kind : Kind) (records : ℕ) (profile : Profile) (s : List ℕ)
     → reached n kind records profile s
     → (IsUnreadSelect n → s ≡ []) × (IsVersionedSelect n → (version : ℕ) × (s ≡ version ∷ []))
 
--- What completes a payload is octets.
+-- The completions of a payload are octets.
 abbrev pub CompletionsAreOctets : Type 0
 CompletionsAreOctets = (n : Nest) (r : List ℕ) → future n r → AreOctets r

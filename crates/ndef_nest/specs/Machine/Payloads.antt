@@ -3,19 +3,19 @@ use Rattle.std.specs.Prelude.{◌≡◌, ℕ, Bool, true, false, is_some, List}
 use Rattle.ndef_format.specs.declared.profile.Profile.{Profile}
 use Rattle.ndef_format.specs.declared.reason.Reason.{Reason}
 use Rattle.ndef_lang.specs.Lengths.{meets}
-use Rattle.ndef_lang.specs.Machine.Leaf.{CompletesLeaf, LeafReached, leaf_told, leaf_lengths}
+use Rattle.ndef_lang.specs.Machine.Leaf.{CompletesLeaf, LeafReached, leaf_reason, leaf_lengths}
 use Rattle.ndef_format.specs.Kinds.{outer_kind}
 use Rattle.ndef_format.specs.Nested.{table_in}
 use Rattle.ndef_format.specs.declared.kind.Kind.{Kind}
 use Rattle.ndef_nest.specs.declared.typed.Typed.{Typed}
 use Rattle.ndef_nest.specs.declared.typed.Typed.TheVariants.{Leaf, Nest}
-use Rattle.ndef_nest.specs.Machine.Nests.{future, reached, nest_fits, nest_told}
+use Rattle.ndef_nest.specs.Machine.Nests.{future, reached, nest_fits, nest_reason}
 
 -- RTD Smart Poster 1.0 and Connection Handover 1.2: the payloads of the kind hold messages
 abbrev pub is_nest : Kind → Bool
 is_nest kind = is_some (table_in kind)
 
--- what completes a payload
+-- the octets that complete a payload
 abbrev pub CompletesTyped : Typed → List ℕ → Type 0
 CompletesTyped (Leaf leaf) r = CompletesLeaf leaf r
 CompletesTyped (Nest nest) r = future nest r
@@ -26,9 +26,9 @@ TypedReached (Leaf leaf) kind records profile s = (is_nest kind ≡ false) × Le
 TypedReached (Nest nest) kind records profile s = (is_nest kind ≡ true) × reached nest kind records profile s
 
 -- the reason of the octet taken last
-abbrev pub typed_told : Typed → Reason
-typed_told (Leaf leaf) = leaf_told leaf
-typed_told (Nest nest) = nest_told nest
+abbrev pub typed_reason : Typed → Reason
+typed_reason (Leaf leaf) = leaf_reason leaf
+typed_reason (Nest nest) = nest_reason nest
 
 -- some lo to hi octets complete a payload
 abbrev pub typed_fits : Typed → ℕ → ℕ → Bool

@@ -3,7 +3,7 @@ use Rattle.std.specs.Prelude.{◌≡◌, ℕ, ◌-◌, ◌≤◌, List, ◌++◌
 use Rattle.ndef_piece.specs.declared.head_reader.HeadReader.TheInside.{Inside}
 use Rattle.ndef_piece.specs.Machine.Reading.{Reading, IsSound}
 
--- what its fields say
+-- the values of its fields
 abbrev pub reading : Inside → Reading
 reading r = record { spot = r.spot; octets = take r.count r.octets; answer = r.answer }
 
@@ -11,7 +11,7 @@ reading r = record { spot = r.spot; octets = take r.count r.octets; answer = r.a
 abbrev pub padded : List ℕ → List ℕ
 padded octets = octets ++ replicate (7 - length octets) 0
 
--- its fields, from what they say
+-- its fields, from their values
 abbrev pub inside_fields : Reading → Inside
 inside_fields r = record { spot = r.spot; octets = padded r.octets; count = length r.octets; answer = r.answer }
 

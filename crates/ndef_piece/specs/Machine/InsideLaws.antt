@@ -1,4 +1,4 @@
--- What a reader shows determines its fields.
+-- The values that a reader shows determine its fields.
 use Rattle.std.proofs.Common.{◌≡◌, ℕ, ◌-◌, ◌≤◌, refl, sym, ap, arith, List, length, take, length-append}
 use Rattle.std.specs.Prelude.{replicate}
 use Rattle.std.proofs.lemmas.List.{length-take, length-replicate}
@@ -24,6 +24,6 @@ same_inside_fields : (r : Inside) (octets : List ℕ) (count : ℕ) → octets �
 same_inside_fields r octets count e f = rw (e, f) refl
 
 -- they are those that it has
-pub fields_are_told : (r : Inside) → IsConsistent r → inside_fields (reading r) ≡ r
-fields_are_told r c = same_inside_fields r (padded (take r.count r.octets)) (length (take r.count r.octets))
+pub inside_fields_are_exact : (r : Inside) → IsConsistent r → inside_fields (reading r) ≡ r
+inside_fields_are_exact r c = same_inside_fields r (padded (take r.count r.octets)) (length (take r.count r.octets))
     (sym c.zeros) (octets_counted r.octets r.count c.few c.zeros)

@@ -14,7 +14,7 @@ pub record Reading : Type 0 where
   pub octets : List ℕ
   pub answer : Step
 
--- What is answered to the octet b after the octets xs, where a head is open:
+-- The answer to the octet b after the octets xs, if a head is open:
 -- a head that isn't whole yet, a whole one, or an octet after which no head is possible, with the lowest reason.
 abbrev pub IsAnswer : Spot → List ℕ → ℕ → Step → Type 0
 IsAnswer spot xs b steps.More = IsOpen spot (xs ++ b ∷ [])
@@ -43,7 +43,7 @@ IfHead _ P = ⊤
 abbrev pub OneAnswer : Type 0
 OneAnswer = (spot : Spot) (xs : List ℕ) (b : ℕ) (s t : Step) → IsAnswer spot xs b s → IsAnswer spot xs b t → s ≡ t
 
--- Where a head is open, no condition holds of an octet exactly where some head goes on with it.
+-- If a head is open, no condition holds of an octet exactly if some head continues with it.
 abbrev pub ConditionsAreExact : Type 0
 ConditionsAreExact = (spot : Spot) (xs : List ℕ) (b : ℕ) → b < 256 → IsOpen spot xs → (reason_for spot xs b ≡ None)
     ↔ IsViableHead spot (xs ++ b ∷ [])

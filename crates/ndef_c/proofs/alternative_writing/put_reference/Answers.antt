@@ -1,5 +1,5 @@
 use Rattle.std.proofs.Common.{subst}
-use Rattle.ndef_c.specs.Rooms.{Puts}
+use Rattle.ndef_c.specs.Buffers.{Puts}
 use Rattle.ndef_c.proofs.Counted.{counted_is}
 use Rattle.ndef_c.proofs.Puts.{puts_on}
 use Rattle.ndef_c.proofs.alternative_writing.put_reference.Goals as goal

@@ -1,6 +1,6 @@
 use Rattle.std.proofs.Common.{subst}
 use Rattle.ndef_c.specs.AlternativeWrites.{counted_part}
-use Rattle.ndef_c.specs.Rooms.{Puts}
+use Rattle.ndef_c.specs.Buffers.{Puts}
 use Rattle.ndef_c.specs.declared.part.NdefPart.{NdefPart}
 use Rattle.ndef_c.proofs.Counted.{joined_more}
 use Rattle.ndef_c.proofs.Puts.{puts_on}

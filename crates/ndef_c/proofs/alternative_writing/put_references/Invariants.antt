@@ -1,7 +1,7 @@
 use Rattle.std.proofs.Common.{take}
 use Rattle.std.specs.List.{flat_map}
 use Rattle.ndef_c.specs.AlternativeWrites.{counted_part}
-use Rattle.ndef_c.specs.Rooms.{Puts}
+use Rattle.ndef_c.specs.Buffers.{Puts}
 use Rattle.ndef_c.proofs.alternative_writing.put_references.Given as goal
 
 abbrev pub invariant-loop-part : goal.invariant-loop-part

@@ -1,6 +1,6 @@
 use Rattle.std.proofs.Common.{rules, ◌≡◌, ◌+◌, length, refl, arith}
 use Rattle.ndef_c.specs.Writes.{item_of, octets_by}
-use Rattle.ndef_c.proofs.Built.{put_behind}
+use Rattle.ndef_c.proofs.Built.{put_after}
 use Rattle.ndef_c.proofs.Puts.{put_at}
 use Rattle.ndef_c.proofs.building.append.Goals as goal
 
@@ -13,16 +13,16 @@ returns c =
     let to = p.put.at (omega (arith, from)) in
     let bound = p.bound in
     let count = c.at.ensures in
-    let n : c.at.result ≡ a.built.now.length + length octets = omega (arith, from, to, bound, count) in
-    let l = c.if-room-count.false in
+    let n : c.at.result ≡ a.builder.now.length + length octets = omega (arith, from, to, bound, count) in
+    let l = c.if-buffer-count.false in
     let size = c.reopen.ensures.size in
     let last = p.last.2 in
     record {
       count_is = n;
       fits = λ _. (
         refl,
-        put_behind a.room.now c.reopen.new.room _ octets a.built.now _ c.reopen.ensures.front c.reopen.ensures.behind n
-            (put_at _ _ _ c.new.ensures.at c.new.ensures.room (search rules) (omega (arith, n, l, size)) c.put_record-last-2.ensures.put),
+        put_after a.buffer.now c.reopen.new.buffer _ octets a.builder.now _ c.reopen.ensures.front c.reopen.ensures.following n
+            (put_at _ _ _ c.new.ensures.at c.new.ensures.buffer (search rules) (omega (arith, n, l, size)) c.put_record-last-2.ensures.put),
         record { length_is = n; records = refl; at = p.last.0; begins_at = p.last.1; last_at = omega (arith, last, from) },
       );
       too_small = λ h. absurd (omega (arith, l, h));

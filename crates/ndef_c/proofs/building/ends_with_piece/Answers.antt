@@ -7,12 +7,12 @@ use Rattle.ndef_c.proofs.building.ends_with_piece.Goals as goal
 pub returns-then-not-is_last : goal.returns-then-not-is_last
 returns-then-not-is_last c =
     let s = subst (IsSplit (shown c.in-Some.piece) _ c.in-Some.piece.rest.now) c.split_at.ensures.back c.in-Some.ensures.piece in
-    (λ t. absurd (true≢false (sym t)), λ e. absurd (true≢false (sym (ends_only c.heads_are_apart.ensures.apart _ _ _ _ _ s e).0 ∙ sym c.is_last.ensures ∙ c.if-not-is_last.true)))
+    (λ t. absurd (true≢false (sym t)), λ e. absurd (true≢false (sym (ends_only c.heads_are_unambiguous.ensures.apart _ _ _ _ _ s e).0 ∙ sym c.is_last.ensures ∙ c.if-not-is_last.true)))
 
 pub returns-then-is_chunked : goal.returns-then-is_chunked
 returns-then-is_chunked c =
     let s = subst (IsSplit (shown c.in-Some.piece) _ c.in-Some.piece.rest.now) c.split_at.ensures.back c.in-Some.ensures.piece in
-    (λ t. absurd (true≢false (sym t)), λ e. absurd (true≢false (sym c.if-is_chunked.true ∙ c.is_chunked.ensures ∙ (ends_only c.heads_are_apart.ensures.apart _ _ _ _ _ s e).1)))
+    (λ t. absurd (true≢false (sym t)), λ e. absurd (true≢false (sym c.if-is_chunked.true ∙ c.is_chunked.ensures ∙ (ends_only c.heads_are_unambiguous.ensures.apart _ _ _ _ _ s e).1)))
 
 pub returns : goal.returns
 returns c =
@@ -25,5 +25,5 @@ returns c =
         last = sym c.is_last.ensures ∙ c.if-not-is_last.false;
         whole = sym c.is_chunked.ensures ∙ c.if-is_chunked.false;
       },
-      λ e. c.is_empty.ensures ∙ ap (λ r. length r == 0) (ends_only c.heads_are_apart.ensures.apart _ _ _ _ _ s e).2,
+      λ e. c.is_empty.ensures ∙ ap (λ r. length r == 0) (ends_only c.heads_are_unambiguous.ensures.apart _ _ _ _ _ s e).2,
     )

@@ -1,6 +1,6 @@
 use Rattle.std.proofs.Common.{◌+◌, ◌∷◌, [], length, sym, ap, subst, append_assoc}
 use Rattle.ndef_c.specs.Contents.{content_octets}
-use Rattle.ndef_c.specs.Rooms.{Puts}
+use Rattle.ndef_c.specs.Buffers.{Puts}
 use Rattle.ndef_c.proofs.Puts.{puts_on}
 use Rattle.ndef_c.proofs.content.put_content.Goals as goal
 

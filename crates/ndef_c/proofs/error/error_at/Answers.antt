@@ -21,5 +21,5 @@ returns c =
       reason = c.from.ensures ∙ c.reason-reason.ensures v.0 stands;
       detail = rw (c.detail-detail.ensures.value v.0 stands) (lies_after v.0.reason v.0.detail c.args.payload.now v.1.1);
       place = refl;
-      number = rw (← c.reason-reason.ensures v.0 stands, ← c.detail-detail.ensures.value v.0 stands, ← c.number_of.ensures) c.told-has_number.ensures;
+      number = rw (← c.reason-reason.ensures v.0 stands, ← c.detail-detail.ensures.value v.0 stands, ← c.number_of.ensures) c.reported-has_number.ensures;
     }

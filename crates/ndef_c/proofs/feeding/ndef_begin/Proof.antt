@@ -1,4 +1,4 @@
--- The new checker is written to the room, which holds it from then on.
+-- The new checker is written to the buffer, which holds it from then on.
 use Rattle.std.proofs.Common.{ℕ, [], ◌∷◌, refl, w32}
 use Rattle.std.proofs.raw_atomic.Walks.{proved}
 use base.Fraction.{full_share}
@@ -65,10 +65,10 @@ ndef_begin_spec 𝓤 𝓛 𝓜 𝓡 wired =
     qed 𝓛 ((tokens ⊛ S ⊛ ‵ (RawPtr.own_val a.1.0 (rawptr_vals a.1.0)) ⊛ ‵ ftrue) ∷ ‵ (room_at checker.the_row a.1.0) ∷ []) ∵
     move ! (1 ∷ []) $ in_a_block ! a.1.0 (λ p. room_at checker.the_row p) (id⊢ 𝓤 _) (λ bc oc e.
     regoal ! (λ p. prop (WpFn 𝓤 𝓛.H 𝓣.C 𝓣.Λ code.function (vptr limits.ref_ptr.0 limits.ref_ptr.1 ∷ ptr_val p ∷ []) (W.post (y p)))) e refl $
-    -- [the room; the tokens and the parameters]
+    -- [the buffer; the tokens and the parameters]
     move ! (1 ∷ []) $ split ! $ move ! (1 ∷ []) $ split ! $ keep ! (0 ∷ 2 ∷ 3 ∷ []) $
     use1 𝓛 (S ⊛ S) ((shr_copy 𝓛 (named 0) κ limit.the_row limit_laws.the_row_laws.shr_laws).twice limits vs) $ split ! $
-    -- [the limits; again; the tokens; the room]
+    -- [the limits; again; the tokens; the buffer]
     enter ! _ _ _ _ _ $ alloc_all ! (λ l. pass_all ! refl ((tt, tt), ((tt, tt), tt)) $
     nothing ! $ move ! (1 ∷ 0 ∷ []) $ join ! $ move ! (2 ∷ 0 ∷ []) $ join ! $ nothing ! $ move ! (1 ∷ 0 ∷ []) $ use2 𝓛 (raw (G.pre z)) (id⊢ 𝓤 _) $
     calls_at ! (framed 𝓤 𝓛.H 𝓜 (tables 𝓤 𝓛.H 𝓜 𝓡 𝓡.env)) G (begun.met 𝓤 𝓛 𝓜 𝓡 (code.calls-ndef_c::feeding::begun 𝓡.env wired)) z
@@ -76,7 +76,7 @@ ndef_begin_spec 𝓤 𝓛 𝓜 𝓡 wired =
     use1 𝓛 (later (some (λ (r : NdefChecker). (tokens ⊛ ‵ (checker.the_row.own_val r (v ∷ []))) ⊛
     some (λ (ws : Unit {0} × Unit {0}). ‵ (lasts g.ended κs z.0.3 ws) ⊛ raw (fact 𝓤 (IsFed r (record { limits = limits.now; bytes = [] }))))))) (id⊢ 𝓤 _) $
     await ! tt $ pick ! (λ r. split ! $ move ! (1 ∷ []) $ pick ! (λ ws. split ! $ drop ! $ heard ! _ (λ counts. split ! $ move ! (1 ∷ []) $
-    -- [the checker; the tokens; the limits; the room]
+    -- [the checker; the tokens; the limits; the buffer]
     peeks ! checker.the_row (Is checker.the_row) (shows 𝓛 checker.the_row) r (v ∷ []) (λ is.
     let typed = ((checker_laws.the_row_laws.lawful 𝓛).typed r _ is).0 in
     lands_as ! refl refl typed $

@@ -45,8 +45,8 @@ use Rattle.ndef_c.specs.contracts.feeding.feed_checker as g
 use Rattle.ndef_c.proofs.feeding.feed_checker.Met.{met}
 
 -- a fact is put before what is to be shown
-told : {M : Type 1} (𝓤 : Ura M) {φ : Type 0} {P : SProp 𝓤} → φ → ent 𝓤 P (sep 𝓤 (fact 𝓤 φ) P)
-told 𝓤 {φ} {P} x = via 𝓤 (sep 𝓤 (emp 𝓤) P) (emp∗ 𝓤 P) (mono_l 𝓤 P (fact_i 𝓤 φ (emp 𝓤) x))
+reported : {M : Type 1} (𝓤 : Ura M) {φ : Type 0} {P : SProp 𝓤} → φ → ent 𝓤 P (sep 𝓤 (fact 𝓤 φ) P)
+reported 𝓤 {φ} {P} x = via 𝓤 (sep 𝓤 (emp 𝓤) P) (emp∗ 𝓤 P) (mono_l 𝓤 P (fact_i 𝓤 φ (emp 𝓤) x))
 
 abbrev stayed : Stays f.ended.signature.params f.ended.kept
 stayed = (stay_dropped _ yes, (stay_dropped _ yes, (stay_ref (1 ∷ []) tt (plain (λ _. checked.the_row)), tt)))
@@ -116,6 +116,6 @@ ndef_feed_spec 𝓤 𝓛 𝓜 𝓡 wired =
     nothing ! $ move ! (1 ∷ 0 ∷ []) $ join ! $ nothing ! $ join ! $ nothing ! $ join ! $
     nothing ! $ move ! (2 ∷ 0 ∷ []) $ join ! $ move ! (4 ∷ 0 ∷ []) $ join ! $ move ! (0 ∷ 1 ∷ 3 ∷ []) $ group ! 3 $ frame ! $
     let x = fed so_far.limits so_far.bytes begun in
-    suffices ! _ (told 𝓤 x.1.bad) $ suffices ! _ (told 𝓤 x.1.kept) $ suffices ! _ (told 𝓤 x.1.typed) $ suffices ! _ (told 𝓤 x.1.opaque) $
+    suffices ! _ (reported 𝓤 x.1.bad) $ suffices ! _ (reported 𝓤 x.1.kept) $ suffices ! _ (reported 𝓤 x.1.typed) $ suffices ! _ (reported 𝓤 x.1.opaque) $
     show ! (λ (w : NdefChecker). sep 𝓤 (sem 𝓛 (lies_at checker.the_row full_share (block_ptr bc oc) w)) (fact 𝓤 (IsFed w (record so_far { bytes = so_far.bytes ++ bytes.now })))) ws.0 $ says ! x.0 $ done !
     ))))))))))))))

@@ -1,5 +1,5 @@
 use Rattle.std.proofs.Common.{subst, sym}
-use Rattle.ndef_fields.specs.Tellings.{IsMessageFront}
+use Rattle.ndef_fields.specs.Reports.{IsMessageFront}
 use Rattle.ndef_c.proofs.FieldChecks.{front_viable}
 use Rattle.ndef_c.proofs.fields.checked_front.Goals as goal
 

@@ -10,12 +10,12 @@ pub returns-in-Some-clause-within : goal.returns-in-Some-clause-within
 returns-in-Some-clause-within c =
     (c.fields_before.result, c.fields_before.ensures, λ _. (refl, (c.in-Some.field, c.in-Some.ensures.some, c.numbers_of.ensures)))
 
-pub returns-in-Some-clause-behind : goal.returns-in-Some-clause-behind
-returns-in-Some-clause-behind c = λ l.
-    let told = c.fields_before.result in
+pub returns-in-Some-clause-following : goal.returns-in-Some-clause-following
+returns-in-Some-clause-following c = λ l.
+    let reported = c.fields_before.result in
     let i = c.in-Some.ensures.some in
-    let follow = c.fields_before_are_exact.ensures.follow c.args.front.now told c.fields_before.ensures in
-    let n = ends_within told i.before i.behind 0 (length c.args.front.now) c.in-Some.field follow i.split in
+    let follow = c.fields_before_are_exact.ensures.follow c.args.front.now reported c.fields_before.ensures in
+    let n = ends_within reported i.before i.following 0 (length c.args.front.now) c.in-Some.field follow i.split in
     let to = i.to in
     absurd (omega (arith, n, to, l))
 

@@ -1,39 +1,39 @@
 use Rattle.std.proofs.Common.{arith, refl, subst, ◌∙◌}
 use Rattle.ndef_c.specs.Fields.{GivesFieldAt}
-use Rattle.ndef_c.proofs.FieldChecks.{are_checked, told_well}
+use Rattle.ndef_c.proofs.FieldChecks.{are_checked, reported_well}
 use Rattle.ndef_c.proofs.fields.ndef_field_at.Goals as goal
 
 pub returns-clause-bad : goal.returns-clause-bad
 returns-clause-bad c =
     let f = c.checked_front-checked in
-    let b = c.answer_behind in (
-      λ e. absurd (told_well c.in-Some.limits c.args.bytes.now f.result.1 f.new.why c.give_field.result b.result f.ensures.checks b.ensures.ended b.ensures.refused c.give_field.ensures.known e),
+    let b = c.answer_after in (
+      λ e. absurd (reported_well c.in-Some.limits c.args.bytes.now f.result.1 f.new.refusal c.give_field.result b.result f.ensures.checks b.ensures.ended b.ensures.refused c.give_field.ensures.known e),
       λ n. absurd (n (c.in-Some.ensures.some.0 refl)),
     )
 
 pub returns-clause-kept : goal.returns-clause-kept
 returns-clause-kept c = λ e.
     let f = c.checked_front-checked in
-    let b = c.answer_behind in
-    absurd (told_well c.in-Some.limits c.args.bytes.now f.result.1 f.new.why c.give_field.result b.result f.ensures.checks b.ensures.ended b.ensures.refused c.give_field.ensures.known e)
+    let b = c.answer_after in
+    absurd (reported_well c.in-Some.limits c.args.bytes.now f.result.1 f.new.refusal c.give_field.result b.result f.ensures.checks b.ensures.ended b.ensures.refused c.give_field.ensures.known e)
 
 pub returns-clause-field : goal.returns-clause-field
 returns-clause-field c = λ _.
     let f = c.checked_front-checked in
     let g = c.give_field.ensures in
-    let told = g.within.0 in
+    let reported = g.within.0 in
     let size = f.ensures.size in
-    let are = are_checked c.in-Some.limits c.args.bytes.now f.result.1 f.new.why c.heads_are_apart.ensures.apart f.result.0.now told f.ensures.checks f.ensures.front g.within.1 in
-    subst (λ limits. GivesFieldAt limits c.args.bytes.now c.args.place c.args.out.now c.give_field.new.out c.give_field.result f.new.why) c.in-Some.ensures.limits
+    let are = are_checked c.in-Some.limits c.args.bytes.now f.result.1 f.new.refusal c.heads_are_unambiguous.ensures.apart f.result.0.now reported f.ensures.checks f.ensures.front g.within.1 in
+    subst (λ limits. GivesFieldAt limits c.args.bytes.now c.args.place c.args.out.now c.give_field.new.out c.give_field.result f.new.refusal) c.in-Some.ensures.limits
     (
     record {
       checked = f.result.1;
-      told = told;
+      reported = reported;
       are = are;
       within = λ l. g.within.2 (omega (arith, l, size));
-      ended = λ l o. let b = g.behind (omega (arith, l, size)) in (b.0 ∙ c.answer_behind.ensures.ended o, b.1);
+      ended = λ l o. let b = g.following (omega (arith, l, size)) in (b.0 ∙ c.answer_after.ensures.ended o, b.1);
       refused = λ l r.
-          let b = g.behind (omega (arith, l, size)) in
-          (b.0 ∙ c.answer_behind.ensures.refused (λ o. absurd (omega (arith, o, r))) ∙ r, b.1);
+          let b = g.following (omega (arith, l, size)) in
+          (b.0 ∙ c.answer_after.ensures.refused (λ o. absurd (omega (arith, o, r))) ∙ r, b.1);
     }
     )

@@ -11,14 +11,14 @@ returns-clause-next c = λ n.
     let place = c.saturating_add-place.result in
     let sum = c.args.field.now.at + c.args.field.now.length in
     let least = c.saturating_add-place.ensures in
-    let within = place_within (limits_of c.args.limits.now) c.args.bytes.now g.checked c.ndef_field_at.new.why g.are.checks in
+    let within = place_within (limits_of c.args.limits.now) c.args.bytes.now g.checked c.ndef_field_at.new.refusal g.are.checks in
     record {
       checked = g.checked;
-      told = g.told;
+      reported = g.reported;
       are = g.are;
       within = λ l.
           let same : place ≡ sum = omega (arith, least, within, l) in
-          subst (λ p. (c.ndef_field_at.result ≡ OK) × GivesWith g.told p c.ndef_field_at.new.out) same (g.within (omega (arith, same, l)));
+          subst (λ p. (c.ndef_field_at.result ≡ OK) × GivesWith g.reported p c.ndef_field_at.new.out) same (g.within (omega (arith, same, l)));
       ended = λ l. g.ended (omega (arith, least, within, l));
       refused = λ l. g.refused (omega (arith, least, within, l));
     }

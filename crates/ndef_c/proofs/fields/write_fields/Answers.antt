@@ -13,16 +13,16 @@ bounds-array-index c =
     let one = length-append i.done (map numbers_of left) in
     let some = length-map left numbers_of in
     let many = length-map c.args.fields numbers_of in
-    let room = c.requires in
+    let buffer = c.requires in
     let index = i.index in
-    let size = ap length i.filled ∙ length-set_over i.done c.args.array.now (omega (arith, steps, all, one, some, many, room)) in
-    omega (arith, steps, all, one, some, many, room, index, size)
+    let size = ap length i.filled ∙ length-set_over i.done c.args.array.now (omega (arith, steps, all, one, some, many, buffer)) in
+    omega (arith, steps, all, one, some, many, buffer, index, size)
 
 pub loop-field-preserved : goal.loop-field-preserved
 loop-field-preserved c =
     let i = c.loop-field.invariant in
     let left = c.loop-field.field-iterator in
-    let told = c.numbers_of.result in
+    let reported = c.numbers_of.result in
     let next = c.next.new.self in
     let steps = c.in-Some.ensures.steps in
     let fewer = ap length steps in
@@ -30,13 +30,13 @@ loop-field-preserved c =
     let one = length-append i.done (map numbers_of left) in
     let some = length-map left numbers_of in
     let many = length-map c.args.fields numbers_of in
-    let room = c.requires in
+    let buffer = c.requires in
     let index = i.index in
-    let more = length-append i.done (told ∷ []) in
+    let more = length-append i.done (reported ∷ []) in
     record {
-      done = i.done ++ told ∷ [];
-      all = append_assoc i.done (told ∷ []) (map numbers_of next)
+      done = i.done ++ reported ∷ [];
+      all = append_assoc i.done (reported ∷ []) (map numbers_of next)
           ∙ ap (λ x. i.done ++ (x ∷ map numbers_of next)) c.numbers_of.ensures ∙ ap (λ fs. i.done ++ map numbers_of fs) (sym steps) ∙ i.all;
-      filled = filled_on i.done told c.args.array.now c.loop-field.array c.loop-field.index i.filled i.index (omega (arith, fewer, all, one, some, many, room));
+      filled = filled_on i.done reported c.args.array.now c.loop-field.array c.loop-field.index i.filled i.index (omega (arith, fewer, all, one, some, many, buffer));
       index = omega (arith, index, more);
     }

@@ -7,5 +7,5 @@ invariant-loop-found l = record {
   same : l.found-iterator.bytes.now ≡ l.fn.bytes;
   going : l.found-iterator.ended ≡ false;
   kept : l.out ≡ l.fn.out;
-  passes : PassesTo (Has l.wanted) l.fn.bytes l.fn.at l.found-iterator.at;
+  passes : PassesTo (Has l.expected) l.fn.bytes l.fn.at l.found-iterator.at;
 }

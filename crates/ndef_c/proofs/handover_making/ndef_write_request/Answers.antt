@@ -2,9 +2,9 @@ use Rattle.std.proofs.Common.{[], ◌∷◌, subst, sym, arith, ◌<◌, ap, ◌
 use Rattle.ndef_format.specs.Canonical.{canonical}
 use Rattle.ndef_format.specs.declared.kind.Kind.TheVariants as kinds
 use Rattle.ndef_c.specs.Appending.{well_known}
-use Rattle.ndef_c.specs.Rooms.{Gives}
-use Rattle.ndef_c.specs.Series.{MayBeMessage, all_items}
-use Rattle.ndef_c.specs.declared.series.Series.TheVariants as several
+use Rattle.ndef_c.specs.Buffers.{Gives}
+use Rattle.ndef_c.specs.RecordList.{MayBeMessage, all_items}
+use Rattle.ndef_c.specs.declared.record_list.RecordList.TheVariants as several
 use Rattle.ndef_c.proofs.HandoverSaid.{IsCollisionMade, are_carriers, from_request, gives_request, request_series, to_request}
 use Rattle.ndef_c.proofs.handover_making.ndef_write_request.Goals as goal
 
@@ -35,4 +35,4 @@ returns-clause-request c = λ n.
     let four : a.minor < 16 = omega (arith, small) in
     let two : a.collision < 65536 = omega (arith, few) in
     let may = to_request a.collision c.in-Some.made four two e p (subst (λ v. MayBeMessage (v ∷ []) list) c.version_octet.ensures (c.give_message.ensures.may n)) in
-    gives_request a.collision c.in-Some.made e p may _ _ _ _ (subst (λ v. Gives (v ∷ canonical (all_items list)) a.room.now c.give_message.new.room c.give_message.new.count c.give_message.result) c.version_octet.ensures (c.give_message.ensures.message n))
+    gives_request a.collision c.in-Some.made e p may _ _ _ _ (subst (λ v. Gives (v ∷ canonical (all_items list)) a.buffer.now c.give_message.new.buffer c.give_message.new.count c.give_message.result) c.version_octet.ensures (c.give_message.ensures.message n))

@@ -1,9 +1,9 @@
 use Rattle.std.proofs.Common.{[], ◌∷◌, subst, sym, arith, ◌<◌}
 use Rattle.ndef_format.specs.Canonical.{canonical}
 use Rattle.ndef_c.specs.HandoverMaking.{carriers_asked, select_asked}
-use Rattle.ndef_c.specs.Rooms.{Gives}
-use Rattle.ndef_c.specs.Series.{MayBeMessage, all_items}
-use Rattle.ndef_c.specs.declared.series.Series.TheVariants as several
+use Rattle.ndef_c.specs.Buffers.{Gives}
+use Rattle.ndef_c.specs.RecordList.{MayBeMessage, all_items}
+use Rattle.ndef_c.specs.declared.record_list.RecordList.TheVariants as several
 use Rattle.ndef_c.proofs.HandoverSaid.{are_carriers, from_select, gives_select, select_series, to_select}
 use Rattle.ndef_c.proofs.handover_making.ndef_write_select.Goals as goal
 
@@ -30,4 +30,4 @@ returns-clause-select c = λ n.
     let small = c.if-how-gt15.false in
     let four : a.how.now.minor < 16 = omega (arith, small) in
     let may = to_select s four x.may p x.some (subst (λ v. MayBeMessage (v ∷ []) list) c.version_octet.ensures (c.give_message.ensures.may n)) in
-    gives_select s p x.some may _ _ _ _ (subst (λ v. Gives (v ∷ canonical (all_items list)) a.room.now c.give_message.new.room c.give_message.new.count c.give_message.result) c.version_octet.ensures (c.give_message.ensures.message n))
+    gives_select s p x.some may _ _ _ _ (subst (λ v. Gives (v ∷ canonical (all_items list)) a.buffer.now c.give_message.new.buffer c.give_message.new.count c.give_message.result) c.version_octet.ensures (c.give_message.ensures.message n))

@@ -26,8 +26,8 @@ in_words-requires-clause-joined c =
     let s = c.requires.short in
     omega (arith, n, s)
 
-pub in_words-requires-clause-pieces : goal.in_words-requires-clause-pieces
-in_words-requires-clause-pieces c =
+pub in_words-requires-clause-chunks : goal.in_words-requires-clause-chunks
+in_words-requires-clause-chunks c =
     let q = c.requires.found in
     let n = record_size c.args.bytes.now q.0 c.args.found.now q.1 in
     let s = c.requires.short in
@@ -38,7 +38,7 @@ returns c = λ limits at r h.
     let item = run_record r.run in
     let k = c.ndef_kind-kind.ensures.record at r in
     let w = c.in_words.ensures in
-    let told = c.in_words.result in
+    let reported = c.in_words.result in
     let found = c.args.found.now in
     let v = c.value_at-value.ensures limits.profile at r (λ l e. uri_member (kind_of item.tnf item.kind) limits.records limits.profile item.payload (sym k ∙ e) (h l)) in
     record {
@@ -47,5 +47,5 @@ returns c = λ limits at r h.
       run_is = refl;
       repeats = w.repeats;
       kind = w.kind ∙ k;
-      value = same_value c.args.looks limits.profile c.ndef_kind-kind.result told.kind found.payload_at told.payload_at found.pieces told.pieces item.payload c.value_at-value.result (value_of told) w.kind w.repeats.payload_at w.repeats.pieces w.value v;
+      value = same_value c.args.looks limits.profile c.ndef_kind-kind.result reported.kind found.payload_at reported.payload_at found.chunks reported.chunks item.payload c.value_at-value.result (value_of reported) w.kind w.repeats.payload_at w.repeats.chunks w.value v;
     }

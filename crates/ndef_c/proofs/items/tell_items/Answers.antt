@@ -6,7 +6,7 @@ use Rattle.ndef_format.specs.Messages.{run_record}
 use Rattle.ndef_c.specs.Items.{AreItems}
 use Rattle.ndef_c.specs.Walks.{AreWalked}
 use Rattle.ndef_c.proofs.Filled.{filled_on, length-set_over}
-use Rattle.ndef_c.proofs.Listed.{all_told, items_count, items_on, member_amid, same_end, step, there}
+use Rattle.ndef_c.proofs.Listed.{all_reported, items_count, items_on, member_amid, same_end, step, there}
 use Rattle.ndef_c.proofs.Walked.{checks_walked}
 use Rattle.ndef_c.proofs.items.tell_items.Goals as goal
 
@@ -20,7 +20,7 @@ loop-index-init g c =
       all = refl;
       walked = subst (λ s. AreWalked s 0 t.viewed.runs t.viewed.taken) (take-length c.args.bytes.now)
           (checks_walked g.L.RecordLanguage.payloads g.L.RecordLanguage.reasons c.args.limits c.args.bytes.now t.viewed (length c.args.bytes.now) t.views t.views.0);
-      told = [];
+      reported = [];
       are = refl;
       filled = refl;
       index = refl;
@@ -60,9 +60,9 @@ bounds-items-index g c =
     let index = i.index in
     let size = i.size in
     let records = i.takes.records in
-    let room = c.requires.room in
-    let n = ap length i.filled ∙ length-set_over i.told c.args.items.now (omega (arith, test, index, size, records, room)) in
-    omega (arith, test, index, size, records, room, n)
+    let buffer = c.requires.buffer in
+    let n = ap length i.filled ∙ length-set_over i.reported c.args.items.now (omega (arith, test, index, size, records, buffer)) in
+    omega (arith, test, index, size, records, buffer, n)
 
 pub loop-index-preserved : goal.loop-index-preserved
 loop-index-preserved g c =
@@ -72,7 +72,7 @@ loop-index-preserved g c =
     let index = i.index in
     let size = i.size in
     let records = t.records in
-    let room = c.requires.room in
+    let buffer = c.requires.buffer in
     let count = items_count _ _ _ _ _ _ _ i.are in
     let all = ap length i.all ∙ length-append i.done i.left in
     let x = c.in-Some.ensures.some in
@@ -84,17 +84,17 @@ loop-index-preserved g c =
     let item = c.item_of.result in
     let h = c.item_of.ensures c.args.limits c.loop-index.at x (λ l. c.requires.typed l c.args.limits (run_record x.run) member) in
     let end : item.end ≡ c.in-Some.found.end = h.repeats.end ∙ same_end bytes c.loop-index.at h.place c.in-Some.found h.there x in
-    let more = length-append i.told (item ∷ []) in
+    let more = length-append i.reported (item ∷ []) in
     record {
       takes = t;
       done = i.done ++ x.run ∷ [];
       left = s.more;
       all = runs ∙ sym (append_assoc i.done (x.run ∷ []) s.more);
       walked = s.walked;
-      told = i.told ++ item ∷ [];
-      are = subst (AreItems c.args.looks c.args.limits.profile bytes 0 (i.done ++ x.run ∷ []) (i.told ++ item ∷ [])) end
-          (items_on c.args.looks c.args.limits.profile bytes 0 c.loop-index.at i.done i.told x.run item i.are h);
-      filled = filled_on i.told item c.args.items.now c.loop-index.items c.loop-index.index i.filled i.index (omega (arith, test, index, size, records, room));
+      reported = i.reported ++ item ∷ [];
+      are = subst (AreItems c.args.looks c.args.limits.profile bytes 0 (i.done ++ x.run ∷ []) (i.reported ++ item ∷ [])) end
+          (items_on c.args.looks c.args.limits.profile bytes 0 c.loop-index.at i.done i.reported x.run item i.are h);
+      filled = filled_on i.reported item c.args.items.now c.loop-index.items c.loop-index.index i.filled i.index (omega (arith, test, index, size, records, buffer));
       index = omega (arith, index, more);
       size = i.size;
     }
@@ -109,4 +109,4 @@ returns g c =
     let count = items_count _ _ _ _ _ _ _ i.are in
     let all = ap length i.all ∙ length-append i.done i.left in
     let bytes = c.args.bytes.now in
-    (t, i.told, all_told c.args.looks c.args.limits.profile bytes c.loop-index.at t.viewed.runs i.done i.left i.told t.viewed.taken c.args.checked.now.place i.are i.all i.walked (omega (arith, test, index, size, count, all)) t.place, omega (arith, test, index, size, count, all), i.filled)
+    (t, i.reported, all_reported c.args.looks c.args.limits.profile bytes c.loop-index.at t.viewed.runs i.done i.left i.reported t.viewed.taken c.args.checked.now.place i.are i.all i.walked (omega (arith, test, index, size, count, all)) t.place, omega (arith, test, index, size, count, all), i.filled)

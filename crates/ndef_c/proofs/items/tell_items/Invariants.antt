@@ -14,10 +14,10 @@ invariant-loop-index g l = record {
   left : List Run;
   all : takes.viewed.runs ≡ done ++ left;
   walked : AreWalked l.bytes l.at left takes.viewed.taken;
-  told : List NdefItem;
-  are : AreItems l.looks l.fn.limits.profile l.bytes 0 done told l.at;
-  filled : l.items ≡ set_over told l.fn.items;
-  index : l.index ≡ length told;
+  reported : List NdefItem;
+  are : AreItems l.looks l.fn.limits.profile l.bytes 0 done reported l.at;
+  filled : l.items ≡ set_over reported l.fn.items;
+  index : l.index ≡ length reported;
   size : l.records ≡ length takes.viewed.runs;
 }
 

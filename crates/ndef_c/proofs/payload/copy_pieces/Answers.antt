@@ -1,6 +1,6 @@
 use Rattle.std.proofs.Common.{◌≡◌, ◌+◌, ◌-◌, take, drop, ◌++◌, ◌∷◌, [], sym, ◌∙◌, ap, subst, arith}
 use Rattle.ndef_format.specs.Messages.{payload_of, run_record}
-use Rattle.ndef_c.specs.Rooms.{Puts}
+use Rattle.ndef_c.specs.Buffers.{Puts}
 use Rattle.ndef_c.proofs.Followed.{one_record}
 use Rattle.ndef_c.proofs.PieceParts.{none_left, passes, passing_at, payload_on}
 use Rattle.ndef_c.proofs.Puts.{puts_none, puts_on}

@@ -1,7 +1,7 @@
 use Rattle.std.proofs.Common.{ℕ, List}
 use Rattle.ndef_format.specs.Records.{Piece, Run, pieces}
 use Rattle.ndef_format.specs.Messages.{payload_of}
-use Rattle.ndef_c.specs.Rooms.{Puts}
+use Rattle.ndef_c.specs.Buffers.{Puts}
 use Rattle.ndef_c.specs.Walks.{BeginsWithRun}
 use Rattle.ndef_c.proofs.PieceParts.{Passing}
 use Rattle.ndef_c.proofs.payload.copy_pieces.Given as goal

@@ -14,5 +14,5 @@ returns-clause-payload c = λ _.
       run = x.run;
       rest = _;
       begins = x.begins;
-      gives = gives_puts _ _ _ _ refl x.payload c.if-room-found.false c.new.ensures.at c.new.ensures.room (search rules) put;
+      gives = gives_puts _ _ _ _ refl x.payload c.if-buffer-found.false c.new.ensures.at c.new.ensures.buffer (search rules) put;
     }

@@ -7,8 +7,8 @@ use Rattle.ndef_c.proofs.poster.ndef_poster.Goals as goal
 
 pub returns-in-Err-clause-refused : goal.returns-in-Err-clause-refused
 returns-in-Err-clause-refused c = λ _. record {
-  refusal = c.in-Err.refusal;
-  refused = subst (λ p. RefusesPayload (IsNest SmartPoster 65535 p) (NestReason SmartPoster 65535 p) c.args.payload.now c.in-Err.refusal) c.profile_of.ensures c.in-Err.ensures.err;
+  refusal = c.in-Err.found;
+  refused = subst (λ p. RefusesPayload (IsNest SmartPoster 65535 p) (NestReason SmartPoster 65535 p) c.args.payload.now c.in-Err.found) c.profile_of.ensures c.in-Err.ensures.err;
   place = c.refuse.ensures.place;
   records = c.refuse.ensures.records;
   reason = c.refuse.ensures.reason;

@@ -15,6 +15,6 @@ returns c = λ profile nest.
       is_uri = uri.1;
       lies = uri.2.lies;
       place = uri.2.place;
-      action = (c.action_of.result, c.action_of.ensures profile items h, c.told-has_action.ensures);
-      size = (c.size_of.result, c.size_of.ensures profile items h, c.told-has_size.ensures);
+      action = (c.action_of.result, c.action_of.ensures profile items h, c.reported-has_action.ensures);
+      size = (c.size_of.result, c.size_of.ensures profile items h, c.reported-has_size.ensures);
     }

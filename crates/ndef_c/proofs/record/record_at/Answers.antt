@@ -21,19 +21,19 @@ returns-clause-some c =
     let run = c.in-Some.found in
     let f = run.first in
     let x = c.in-Some.ensures.some in
-    let behind = c.split_at.ensures.back in
+    let following = c.split_at.ensures.back in
     let within : c.args.at ≤ length bytes = omega arith in
-    let e = ends x.run bytes c.split_at.result.1.now run.rest.now c.args.at within behind x.begins in
+    let e = ends x.run bytes c.split_at.result.1.now run.rest.now c.args.at within following x.begins in
     let p = lie_in f.header f.kind.now f.id.now f.payload.now f.rest.now bytes
-    (shown_parts f.header _ f.kind.now f.id.now f.payload.now f.rest.now c.split_at.result.1.now bytes c.args.at behind x.no_id x.split) in
+    (shown_parts f.header _ f.kind.now f.id.now f.payload.now f.rest.now c.split_at.result.1.now bytes c.args.at following x.no_id x.split) in
     let size = part_of bytes f.rest.now f.payload.now in
-    let t = piece_there f.header _ f.kind.now f.id.now f.payload.now f.rest.now c.split_at.result.1.now bytes c.args.at size within behind x.no_id x.split refl refl in
+    let t = piece_there f.header _ f.kind.now f.id.now f.payload.now f.rest.now c.split_at.result.1.now bytes c.args.at size within following x.no_id x.split refl refl in
     let kind : f.kind.now ≡ (run_record x.run).kind = ap (λ q. q.kind) x.initial in
     let id : f.id.now ≡ (run_record x.run).id = sym (id_is (is_set 3 f.header) f.id.now x.no_id) ∙ ap (λ q. unwrap_or q.id []) x.initial in
     let part : f.payload.now ≡ x.run.initial.payload = ap (λ q. q.payload) x.initial in
     record {
       run = x.run;
-      begins = subst (BeginsWithRun x.run (drop (length bytes - length run.rest.now) bytes)) behind (subst (λ y. BeginsWithRun x.run y c.split_at.result.1.now) (sym e.rest_is) x.begins);
+      begins = subst (BeginsWithRun x.run (drop (length bytes - length run.rest.now) bytes)) following (subst (λ y. BeginsWithRun x.run y c.split_at.result.1.now) (sym e.rest_is) x.begins);
       at_is = refl;
       onward = e.onward;
       within = omega arith;
@@ -42,8 +42,8 @@ returns-clause-some c =
       id = subst (Lies bytes _ _) id p.id_lies;
       part = subst (Lies bytes _ _) part p.payload_lies;
       first = (t.is.short, subst (λ q. IsSplit q t.is.short (drop (size.at + size.length) bytes) (drop c.args.at bytes)) x.initial t.is.split);
-      id_behind = p.id_behind;
-      part_behind = p.payload_behind;
+      id_after = p.id_after;
+      part_after = p.payload_after;
       payload = x.payload;
       pieces_are = x.pieces_are;
       last = c.from-2.ensures ∙ byte_is_bit run.last ∙ ap bit x.last;

@@ -10,8 +10,8 @@ abbrev pub invariant-loop-before : goal.invariant-loop-before
 invariant-loop-before l = record {
   within : l.before ≤ l.count;
   names : NamesAt l.payload l.count l.at l.before;
-  told : List NdefPart;
-  are : (v : AcValue) → StandsForAc l.payload v → EachAt (IsReferencePart l.payload v) 0 told;
-  count : length told ≡ 1 + l.before;
-  filled : l.parts ≡ set_over told l.fn.parts;
+  reported : List NdefPart;
+  are : (v : AcValue) → StandsForAc l.payload v → EachAt (IsReferencePart l.payload v) 0 reported;
+  count : length reported ≡ 1 + l.before;
+  filled : l.parts ≡ set_over reported l.fn.parts;
 }

@@ -10,8 +10,8 @@ returns-in-Ok-clause-request c = λ _. c.request_at.ensures _ (subst (λ p. IsNe
 
 pub returns-in-Err-clause-refused : goal.returns-in-Err-clause-refused
 returns-in-Err-clause-refused c = λ _. record {
-  refusal = c.in-Err.refusal;
-  refused = subst (λ p. RefusesPayload (IsNest Request 65535 p) (NestReason Request 65535 p) c.args.payload.now c.in-Err.refusal) c.profile_of.ensures c.in-Err.ensures.err;
+  refusal = c.in-Err.found;
+  refused = subst (λ p. RefusesPayload (IsNest Request 65535 p) (NestReason Request 65535 p) c.args.payload.now c.in-Err.found) c.profile_of.ensures c.in-Err.ensures.err;
   place = c.refuse.ensures.place;
   records = c.refuse.ensures.records;
   reason = c.refuse.ensures.reason;

@@ -7,7 +7,7 @@ use Rattle.ndef_c.proofs.request.request_at.Goals as goal
 pub returns : goal.returns
 returns c = λ profile h.
     let n = request_nest profile c.args.payload.now h in
-    let m = subst (AreHandoverContents tables.Request profile n.items) (sym c.behind_version-message.ensures) n.are in
+    let m = subst (AreHandoverContents tables.Request profile n.items) (sym c.after_version-message.ensures) n.are in
     record {
       in_set = h;
       short = c.requires.short;

@@ -24,7 +24,7 @@ pub returns-in_default-whole_piece-clause-none : goal.returns-in_default-whole_p
 returns-in_default-whole_piece-clause-none c = λ h.
     let f = from_piece _ _ _ _ c.in-Some.ensures.piece h.0 h.1 h.2 in
     let n = goes_on c.loop-piece.invariant.reading (sym c.is_chunked.ensures ∙ c.loop-piece-test.true) _ _ f.others in
-    c.in_default-whole_piece.ensures.none (record { piece = n.1.piece; short = n.1.short; rest = n.1.behind; split = n.1.split })
+    c.in_default-whole_piece.ensures.none (record { piece = n.1.piece; short = n.1.short; rest = n.1.following; split = n.1.split })
 
 pub returns-then-not-is_later-clause-none : goal.returns-then-not-is_later-clause-none
 returns-then-not-is_later-clause-none c = λ h.

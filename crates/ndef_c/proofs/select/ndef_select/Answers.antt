@@ -10,8 +10,8 @@ returns-in-Ok-clause-select c = λ _. c.select_at.ensures _ (subst (λ p. IsNest
 
 pub returns-in-Err-clause-refused : goal.returns-in-Err-clause-refused
 returns-in-Err-clause-refused c = λ _. record {
-  refusal = c.in-Err.refusal;
-  refused = subst (λ p. RefusesPayload (IsNest Select 65535 p) (NestReason Select 65535 p) c.args.payload.now c.in-Err.refusal) c.profile_of.ensures c.in-Err.ensures.err;
+  refusal = c.in-Err.found;
+  refused = subst (λ p. RefusesPayload (IsNest Select 65535 p) (NestReason Select 65535 p) c.args.payload.now c.in-Err.found) c.profile_of.ensures c.in-Err.ensures.err;
   place = c.refuse.ensures.place;
   records = c.refuse.ensures.records;
   reason = c.refuse.ensures.reason;

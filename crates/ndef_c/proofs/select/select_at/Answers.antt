@@ -16,5 +16,5 @@ returns c = λ profile h.
       error = e.0;
       is_error = e.1;
       tells = e.2;
-      carriers = c.alternatives_in.ensures profile n.items (subst (MayBeInPieces profile n.items) (sym c.behind_version.ensures) n.are.pieces);
+      carriers = c.alternatives_in.ensures profile n.items (subst (MayBeInPieces profile n.items) (sym c.after_version.ensures) n.are.pieces);
     }

@@ -1,6 +1,6 @@
 use Rattle.std.proofs.Common.{rules, ◌≡◌, ◌++◌, length, refl, ap, arith, true}
 use Rattle.ndef_format.specs.Canonical.{canonical}
-use Rattle.ndef_c.specs.Series.{MayBeMessage, all_items, left_octets}
+use Rattle.ndef_c.specs.RecordList.{MayBeMessage, all_items, left_octets}
 use Rattle.ndef_c.proofs.Puts.{gives_puts, no_room, some_of}
 use Rattle.ndef_c.proofs.Several.{left_canonical}
 use Rattle.ndef_c.proofs.series_writing.give_message.Goals as goal
@@ -35,8 +35,8 @@ returns-then-needed-clause-bad c = (
   λ _. refl,
 )
 
-pub returns-then-room-needed : goal.returns-then-room-needed
-returns-then-room-needed c =
+pub returns-then-buffer-needed : goal.returns-then-buffer-needed
+returns-then-buffer-needed c =
     let front = c.args.front.now in
     let items = all_items c.args.several.now in
     let count = c.all_count-records.ensures in
@@ -47,13 +47,13 @@ returns-then-room-needed c =
     let to = c.in-Some.ensures.some.at (omega (arith, from)) in
     let needed = c.at-needed.ensures in
     let short = c.if-needed.false in
-    let small = c.if-room-needed.true in
+    let small = c.if-buffer-needed.true in
     let may : MayBeMessage front c.args.several.now = record { each = c.in-Some.ensures.may; few = omega (arith, records, few); fits = omega (arith, size, from, to, needed, short) } in
     record {
       bad = (λ e. absurd (omega (arith, e)), λ f. absurd (f may));
       kept = λ e. absurd (omega (arith, e));
       may = λ _. may;
-      message = λ _. no_room (front ++ canonical items) c.args.room.now _ (omega (arith, size, from, to, needed, short)) (omega (arith, size, from, to, needed, short, small));
+      message = λ _. no_room (front ++ canonical items) c.args.buffer.now _ (omega (arith, size, from, to, needed, short)) (omega (arith, size, from, to, needed, short, small));
     }
 
 pub returns : goal.returns
@@ -76,5 +76,5 @@ returns c =
       bad = (λ e. absurd (omega (arith, e)), λ f. absurd (f may));
       kept = λ e. absurd (omega (arith, e));
       may = λ _. may;
-      message = λ _. gives_puts _ _ _ _ same (omega (arith, from, to, needed, short)) c.if-room-needed.false c.new.ensures.at c.new.ensures.room (search rules) put;
+      message = λ _. gives_puts _ _ _ _ same (omega (arith, from, to, needed, short)) c.if-buffer-needed.false c.new.ensures.at c.new.ensures.buffer (search rules) put;
     }

@@ -1,7 +1,7 @@
 use Rattle.std.proofs.Common.{subst, ◌≡◌, ◌∙◌, ap, true, false, get_or}
 use Rattle.ndef_format.specs.Texts.{is_wide}
 use Rattle.ndef_types.specs.Values.{encoded_octets, is_utf16}
-use Rattle.ndef_c.specs.Rooms.{Gives}
+use Rattle.ndef_c.specs.Buffers.{Gives}
 use Rattle.ndef_c.proofs.Texts.{given_utf8, given_utf16}
 use Rattle.ndef_c.proofs.text.give_text.Goals as goal
 
@@ -16,7 +16,7 @@ returns-in-Utf8 c =
       short = c.requires.short;
       text = v.0;
       stands = v.1.1;
-      gives = subst (λ p. Gives p c.args.room.now c.give.new.room c.give.new.count c.give.result) (given_utf8 payload _ v.0 v.1.1 octets narrow) c.give.ensures;
+      gives = subst (λ p. Gives p c.args.buffer.now c.give.new.buffer c.give.new.count c.give.result) (given_utf8 payload _ v.0 v.1.1 octets narrow) c.give.ensures;
     }
 
 pub give_in_utf8-requires-clause-text : goal.give_in_utf8-requires-clause-text

@@ -25,11 +25,11 @@ pub returns : goal.returns
 returns c = λ at r.
     let t = subst (λ p. IsTextAt p c.text_at-text.result) (c.part_in.ensures at r) c.text_at-text.ensures in
     let from = t.language_place in
-    let behind = t.text_place in
+    let following = t.text_place in
     record {
       language = lies_deeper _ _ _ _ _ _ _ r.part t.language;
       text = lies_deeper _ _ _ _ _ _ _ r.part t.text;
       language_place = omega (arith, from);
-      text_place = omega (arith, behind);
+      text_place = omega (arith, following);
       utf16 = t.utf16;
     }

@@ -15,7 +15,7 @@ character-requires c =
 pub returns-then-not-is_surrogate : goal.returns-then-not-is_surrogate
 returns-then-not-is_surrogate c = λ d ds h.
     let a = alone c.args.little d ds _ _ _ h c.first_unit-unit.ensures (λ k. true≢false (sym (c.is_surrogate.ensures.1 k) ∙ c.if-not-is_surrogate.true)) in
-    (c.character.ensures ∙ a.same, a.behind)
+    (c.character.ensures ∙ a.same, a.following)
 
 pub first_unit-low-requires : goal.first_unit-low-requires
 first_unit-low-requires c =

@@ -2,7 +2,7 @@ use Rattle.std.proofs.Common.{◌<◌, ◌++◌, [], refl, false, get_or, length
 use Rattle.std.specs.Char.Escape.{encode_utf16}
 use Rattle.ndef_format.specs.Texts.{spelled}
 use Rattle.ndef_types.specs.UnitLaws.{spelled_more, small_units}
-use Rattle.ndef_c.specs.Rooms.{Puts}
+use Rattle.ndef_c.specs.Buffers.{Puts}
 use Rattle.ndef_c.proofs.Puts.{puts_on}
 use Rattle.ndef_c.proofs.utf16.put_character.Goals as goal
 

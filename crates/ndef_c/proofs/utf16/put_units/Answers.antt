@@ -5,7 +5,7 @@ use Rattle.std.proofs.lemmas.Str.{chars_past_char, IsUtf8-past_char}
 use Rattle.std.specs.Str.Iter.{chars_rest}
 use Rattle.ndef_format.specs.Texts.{units_of, spelled}
 use Rattle.ndef_types.specs.UnitLaws.{text_more}
-use Rattle.ndef_c.specs.Rooms.{Puts}
+use Rattle.ndef_c.specs.Buffers.{Puts}
 use Rattle.ndef_c.proofs.Puts.{puts_none, puts_on}
 use Rattle.ndef_c.proofs.utf16.put_units.Goals as goal
 

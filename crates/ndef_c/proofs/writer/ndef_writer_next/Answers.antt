@@ -38,7 +38,7 @@ returns-clause-written c = λ _ _.
       record {
         same = refl;
         is = record { may = c.in-Some.ensures.is.may; begun = subst IsBegun same progress.ensures.is };
-        writes = subst (λ b. WritesNext b given a.room.now c.next.new.buffer c.in-Ok.written (begun_of new)) old
-            (subst (λ b. WritesNext c.in-Some.encoder given a.room.now c.next.new.buffer c.in-Ok.written b) same written);
+        writes = subst (λ b. WritesNext b given a.buffer.now c.next.new.buffer c.in-Ok.written (begun_of new)) old
+            (subst (λ b. WritesNext c.in-Some.encoder given a.buffer.now c.next.new.buffer c.in-Ok.written b) same written);
       },
     )

@@ -3,7 +3,7 @@ use Rattle.ndef_format.specs.Messages.{Item}
 use Rattle.ndef_message.specs.Heads.{first_fields}
 use Rattle.ndef_message.specs.WrittenLaws.{first_fields_are}
 use Rattle.ndef_message.specs.declared.heads.Standing.{Standing}
-use Rattle.ndef_c.specs.Made.{item_with}
+use Rattle.ndef_c.specs.PendingRecord.{item_with}
 use Rattle.ndef_c.proofs.writing.first_head.Goals as goal
 
 pub returns-clause-head : goal.returns-clause-head

@@ -5,8 +5,8 @@ use Rattle.ndef_c.proofs.Puts.{gives_puts, no_room}
 use Rattle.ndef_c.proofs.Records.{asked_by}
 use Rattle.ndef_c.proofs.writing.ndef_write_record.Goals as goal
 
-pub returns-then-room-count-clause-written : goal.returns-then-room-count-clause-written
-returns-then-room-count-clause-written c = λ may.
+pub returns-then-buffer-count-clause-written : goal.returns-then-buffer-count-clause-written
+returns-then-buffer-count-clause-written c = λ may.
     let a = c.args in
     let way = c.way_of-way.result in
     let w = c.way_of-way.ensures in
@@ -17,7 +17,7 @@ returns-then-room-count-clause-written c = λ may.
     let from = c.new-counter.ensures.at in
     let to = c.put_record-last.ensures.put.at (omega (arith, from)) in
     let count = c.at.ensures in
-    let small = c.if-room-count.true in
+    let small = c.if-buffer-count.true in
     no_room _ _ _ (omega (arith, size, bound, from, to, count)) (omega (arith, size, bound, from, to, count, small))
 
 pub returns-clause-written : goal.returns-clause-written
@@ -31,4 +31,4 @@ returns-clause-written c = λ may.
     let from = c.new-counter.ensures.at in
     let to = c.put_record-last.ensures.put.at (omega (arith, from)) in
     let count = c.at.ensures in
-    gives_puts _ _ _ _ same (omega (arith, bound, from, to, count)) c.if-room-count.false c.new.ensures.at c.new.ensures.room (search rules) c.put_record-last-2.ensures.put
+    gives_puts _ _ _ _ same (omega (arith, bound, from, to, count)) c.if-buffer-count.false c.new.ensures.at c.new.ensures.buffer (search rules) c.put_record-last-2.ensures.put

@@ -1,7 +1,7 @@
 use Rattle.std.proofs.Common.{◌≡◌, take, sym, ◌∙◌, ap, subst, take_at}
 use Rattle.ndef_format.specs.Records.{octets}
 use Rattle.ndef_piece.specs.Heads.{written_fields}
-use Rattle.ndef_c.specs.Rooms.{Puts}
+use Rattle.ndef_c.specs.Buffers.{Puts}
 use Rattle.ndef_c.proofs.Puts.{puts_on}
 use Rattle.ndef_c.proofs.writing.put_piece.Goals as goal
 

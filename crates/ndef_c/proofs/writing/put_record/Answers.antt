@@ -1,6 +1,6 @@
 use Rattle.std.proofs.Common.{◌<◌, ◌++◌, [], length, length-take, length-drop, length-append, append_assoc, refl, sym, ◌∙◌, ap, subst, arith}
 use Rattle.ndef_message.specs.WrittenLaws.{some_left, later-end}
-use Rattle.ndef_c.specs.Rooms.{Puts}
+use Rattle.ndef_c.specs.Buffers.{Puts}
 use Rattle.ndef_c.specs.Writes.{item_of, octets_of_piece}
 use Rattle.ndef_format.specs.Messages.{Item}
 use Rattle.ndef_c.proofs.Ahead.{empty_rest}

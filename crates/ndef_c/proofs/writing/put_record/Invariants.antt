@@ -1,5 +1,5 @@
 use Rattle.std.proofs.Common.{◌≡◌, ℕ, ◌+◌, ◌*◌, ◌<◌, ◌≤◌, ◌^◌, List, ◌++◌, length}
-use Rattle.ndef_c.specs.Rooms.{Puts}
+use Rattle.ndef_c.specs.Buffers.{Puts}
 use Rattle.ndef_c.specs.Writes.{item_of, octets_by}
 use Rattle.ndef_c.proofs.Records.{Cutting, left_octets}
 use Rattle.ndef_c.proofs.writing.put_record.Given as goal

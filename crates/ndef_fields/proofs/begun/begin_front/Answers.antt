@@ -8,7 +8,7 @@ use Rattle.ndef_fields.specs.Lasts.{kind_there}
 use Rattle.ndef_fields.specs.Lefts.{inside_parts}
 use Rattle.ndef_fields.specs.Parts.{placed}
 use Rattle.ndef_fields.proofs.FrontFields.{contents_front, within}
-use Rattle.ndef_fields.proofs.Fronts.{front_behind, head_front}
+use Rattle.ndef_fields.proofs.Fronts.{front_after, head_front}
 use Rattle.ndef_fields.proofs.begun.begin_front.Goals as goal
 
 pub begin_with-requires : goal.begin_with-requires
@@ -34,7 +34,7 @@ returns c =
       content = subst (λ k. ArePayloadFront k (content_come s) (own ++ b.inner)) e (contents_front kind (content_come s) contents has b.inner b.nested);
       placed =
           b.placed
-          ∙ ap (placed c.args.at) (ap (λ x. x ++ b.inner) (head_front 0 s c.piece_front-front.result.head own f.head) ∙ front_behind 0 s own b.inner);
+          ∙ ap (placed c.args.at) (ap (λ x. x ++ b.inner) (head_front 0 s c.piece_front-front.result.head own f.head) ∙ front_after 0 s own b.inner);
       outer_sound = b.outer_sound;
       last_sound = b.last_sound;
     }

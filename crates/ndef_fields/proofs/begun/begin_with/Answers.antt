@@ -11,8 +11,8 @@ pub returns : goal.returns
 returns c =
     let table = c.args.contents.table in
     let bytes = c.args.contents.inner.now in
-    let tail = c.behind_pieces-tail.result.now in
-    let w = c.behind_pieces-tail.ensures.whole in
+    let tail = c.after_pieces-tail.result.now in
+    let w = c.after_pieces-tail.ensures.whole in
     let parts = left_parts 0 c.args.left in
     let last = c.last_cursor.ensures in
     let slice = c.split_at.ensures.front ∙ front_is bytes tail w in

@@ -22,11 +22,11 @@ loop-piece-preserved c =
     let inv = c.loop-piece.invariant in
     record {
       shorter = let n = split_shorter p (is_set 4 w.header) w.rest.now c.loop-piece.rest.now found.split in let k = inv.shorter in omega arith;
-      going_on = ap (λ x. x.inside) c.behind_chunk-found.ensures;
-      later = λ h. ap (λ x. x.first) c.behind_chunk-found.ensures;
+      going_on = ap (λ x. x.inside) c.past_chunk-found.ensures;
+      later = λ h. ap (λ x. x.first) c.past_chunk-found.ensures;
       goes_on = λ records count room m e.
           run_on l records count room m c.args.bytes.now c.loop-piece.rest.now c.loop-piece.found (inv.goes_on records count room m e) p (is_set 4 w.header) w.rest.now found.split found.stands
-          c.behind_chunk-found.result found.chunked c.behind_chunk-found.ensures;
+          c.past_chunk-found.result found.chunked c.past_chunk-found.ensures;
     }
 
 pub whole_chunk-requires : goal.whole_chunk-requires

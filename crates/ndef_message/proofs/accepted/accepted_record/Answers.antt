@@ -18,12 +18,12 @@ returns g c =
     let spot : c.spot.result ≡ spot_of l.profile place = c.spot.ensures ∙ ap (λ x. spot_of x place) c.profile.ensures.value in
     let at = c.opens_at.ensures in
     let yes = c.if-not-opens_at.false in
-    let stands = subst (λ x. pieces.Stands x p) spot (at.stands yes) in
+    let stands = subst (λ x. pieces.IsConsistentAt x p) spot (at.stands yes) in
     let outside : place.inside ≡ false = sym (ap (λ x. x.inside) spot) ∙ at.outside yes in
     let chunked : is_set 5 w.header ≡ true = sym c.is_chunked.ensures ∙ c.if-not-is_chunked.false in
     let any : (s : List ℕ) → AreOctets s → set (tnf_of p.tnf) p.kind l.records l.profile s = λ s h. subst (λ t. set t w.kind.now l.records l.profile s) c.tnf.ensures (c.takes_all.ensures c.if-not-takes_all.false l.records l.profile s h) in
-    run_from set l place c.args.bytes.now p (is_set 4 w.header) w.rest.now _ c.in_ok-more.more c.in_ok-more.last c.behind_chunk-next.result c.in_ok-piece.ensures.piece stands chunked outside any refl
-    c.behind_chunk-next.ensures c.in_ok-more.ensures.within c.in_ok-more.ensures.ends
+    run_from set l place c.args.bytes.now p (is_set 4 w.header) w.rest.now _ c.in_ok-more.more c.in_ok-more.last c.past_chunk-next.result c.in_ok-piece.ensures.piece stands chunked outside any refl
+    c.past_chunk-next.ensures c.in_ok-more.ensures.within c.in_ok-more.ensures.ends
 
 pub returns-then-not-is_chunked : goal.returns-then-not-is_chunked
 returns-then-not-is_chunked g c =

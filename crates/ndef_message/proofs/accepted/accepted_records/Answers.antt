@@ -11,14 +11,14 @@ loop-at-preserved g c =
     let l = c.args.limits.now in
     let set = g.L.RecordLanguage.payloads in
     record {
-      records = subst (AreTakenRecords set l c.args.place c.args.bytes.now (c.loop-at.at + c.in-Some.taken) c.behind_record-found.result) c.if-last.false
-          (records_on set l c.args.place c.loop-at.found c.behind_record-found.result c.args.bytes.now c.loop-at.at c.in-Some.taken c.in-Some.last c.loop-at.invariant.records c.in-Some.ensures c.behind_record-found.ensures);
-      out = λ h. ap (λ x. x.inside) c.behind_record-found.ensures;
+      records = subst (AreTakenRecords set l c.args.place c.args.bytes.now (c.loop-at.at + c.in-Some.taken) c.after_record-found.result) c.if-last.false
+          (records_on set l c.args.place c.loop-at.found c.after_record-found.result c.args.bytes.now c.loop-at.at c.in-Some.taken c.in-Some.last c.loop-at.invariant.records c.in-Some.ensures c.after_record-found.ensures);
+      out = λ h. ap (λ x. x.inside) c.after_record-found.ensures;
     }
 
 pub returns-then-last-clause-records : goal.returns-then-last-clause-records
 returns-then-last-clause-records g c =
     let l = c.args.limits.now in
     let set = g.L.RecordLanguage.payloads in
-    subst (AreTakenRecords set l c.args.place c.args.bytes.now (c.loop-at.at + c.in-Some.taken) c.behind_record-found.result) c.if-last.true
-    (records_on set l c.args.place c.loop-at.found c.behind_record-found.result c.args.bytes.now c.loop-at.at c.in-Some.taken c.in-Some.last c.loop-at.invariant.records c.in-Some.ensures c.behind_record-found.ensures)
+    subst (AreTakenRecords set l c.args.place c.args.bytes.now (c.loop-at.at + c.in-Some.taken) c.after_record-found.result) c.if-last.true
+    (records_on set l c.args.place c.loop-at.found c.after_record-found.result c.args.bytes.now c.loop-at.at c.in-Some.taken c.in-Some.last c.loop-at.invariant.records c.in-Some.ensures c.after_record-found.ensures)

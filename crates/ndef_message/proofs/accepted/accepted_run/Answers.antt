@@ -16,14 +16,14 @@ loop-preserved c =
     let w = c.in_ok-piece.piece in
     let p = shown w in
     let spot : c.spot.result ≡ spot_of l.profile c.loop.at = c.spot.ensures ∙ ap (λ x. spot_of x c.loop.at) c.profile-profile.ensures.value in
-    let stands = subst (λ x. pieces.Stands x p) spot (c.goes_on_at.ensures c.if-not-goes_on_at.false) in
+    let stands = subst (λ x. pieces.IsConsistentAt x p) spot (c.goes_on_at.ensures c.if-not-goes_on_at.false) in
     let chunked : is_set 5 w.header ≡ true = sym c.is_chunked.ensures ∙ c.if-not-is_chunked.false in
     record {
       shorter = let n = split_shorter p (is_set 4 w.header) w.rest.now c.loop.rest.now c.in_ok-piece.ensures.piece in let k = c.loop.invariant.shorter in omega arith;
-      going_on = ap (λ x. x.inside) c.behind_chunk-at.ensures;
+      going_on = ap (λ x. x.inside) c.past_chunk-at.ensures;
       goes_on = λ records count room m e.
           run_on l records count room m c.args.bytes.now c.loop.rest.now c.loop.at (c.loop.invariant.goes_on records count room m e) p (is_set 4 w.header) w.rest.now c.in_ok-piece.ensures.piece stands
-          c.behind_chunk-at.result chunked c.behind_chunk-at.ensures;
+          c.past_chunk-at.result chunked c.past_chunk-at.ensures;
     }
 
 pub goes_on_at-requires : goal.goes_on_at-requires
@@ -42,7 +42,7 @@ returns-then-not-is_chunked-clause-ends c =
     let w = c.in_ok-piece.piece in
     let p = shown w in
     let spot : c.spot.result ≡ spot_of l.profile c.loop.at = c.spot.ensures ∙ ap (λ x. spot_of x c.loop.at) c.profile-profile.ensures.value in
-    let stands = subst (λ x. pieces.Stands x p) spot (c.goes_on_at.ensures c.if-not-goes_on_at.false) in
+    let stands = subst (λ x. pieces.IsConsistentAt x p) spot (c.goes_on_at.ensures c.if-not-goes_on_at.false) in
     let whole : is_set 5 w.header ≡ false = sym c.is_chunked.ensures ∙ c.if-not-is_chunked.true in
     λ records count room m e.
     subst (EndsRun l records count room m (take (length c.args.bytes.now - length w.rest.now) c.args.bytes.now)) (sym c.is_last.ensures)

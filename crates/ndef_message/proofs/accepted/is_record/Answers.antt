@@ -13,7 +13,7 @@ returns g c =
     let at = c.is_record_at.ensures in
     let yes = c.if-not-is_record_at.false in
     record {
-      stands = λ h. subst (λ x. pieces.Stands x (shown w)) spot (at.stands yes);
+      stands = λ h. subst (λ x. pieces.IsConsistentAt x (shown w)) spot (at.stands yes);
       one = λ h. at.one yes;
       outer = λ h. sym (ap (λ x. x.inside) spot) ∙ at.outside yes;
       member = λ h. member_at g.L.RecordLanguage.payloads _ _ w.kind.now _ _ _ _ w.payload.now c.tnf.ensures c.records.ensures.value c.profile-profile.ensures.value (c.has.ensures h);

@@ -13,6 +13,6 @@ returns c =
     let spot = c.spot.ensures ∙ ap (λ x. spot_of x place) c.profile.ensures.value in
     record {
       split = c.in_ok-piece.ensures.piece;
-      stands = subst (λ x. pieces.Stands x (shown c.in_ok-piece.piece)) spot (c.goes_on_at.ensures c.if-not-goes_on_at.false);
+      stands = subst (λ x. pieces.IsConsistentAt x (shown c.in_ok-piece.piece)) spot (c.goes_on_at.ensures c.if-not-goes_on_at.false);
       chunked = sym c.is_chunked.ensures ∙ c.if-not-is_chunked.false;
     }

@@ -1,7 +1,7 @@
 use Rattle.std.proofs.Common.{◌≡◌, ◌+◌, ◌∷◌, length, sym, ◌∙◌, ap, ap₂, subst, arith}
 use Rattle.ndef_message.specs.Machine.Seen.{AreRun, AreRuns, run_of, runs_of, pieces_of}
 use Rattle.ndef_message.specs.Machine.SeenLaws.{begins, first_shown, shorter}
-use Rattle.ndef_message.proofs.SeenRuns.{going_at, next_of, room_of, goes_on, is_over, within, cut_off, told}
+use Rattle.ndef_message.proofs.SeenRuns.{going_at, next_of, room_of, goes_on, is_over, within, cut_off, reported}
 use Rattle.ndef_message.proofs.item.split_item.Goals as goal
 
 pub loop-rest-init : goal.loop-rest-init
@@ -52,7 +52,7 @@ returns-then-not-is_chunked-clause-first c =
     let last = ap (λ p. p.chunked) (sym w.0) ∙ sym c.is_chunked.ensures ∙ c.if-not-is_chunked.true in
     let o = is_over g last c.first_piece-piece.result.rest.now w.1 _ size in
     let parts = cut_off o c.split_at.ensures.front c.split_at.ensures.back in
-    told o ∙ ap₂ (λ x y. run_of x ∷ runs_of (pieces_of y)) (sym parts.0) (sym parts.1)
+    reported o ∙ ap₂ (λ x y. run_of x ∷ runs_of (pieces_of y)) (sym parts.0) (sym parts.1)
 
 pub returns-then-not-is_chunked-clause-rest : goal.returns-then-not-is_chunked-clause-rest
 returns-then-not-is_chunked-clause-rest c =

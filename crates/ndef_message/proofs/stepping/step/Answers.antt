@@ -6,7 +6,7 @@ use Rattle.ndef_message.specs.CutLaws.{below_or_not}
 use Rattle.ndef_message.specs.Machine.Stepping.{PutsAt, advanced}
 use Rattle.ndef_message.specs.Steps.{IsProgress, Steps, chunk_begin, chunk_front, chunk_size}
 use Rattle.ndef_message.proofs.Putting.{puts_on}
-use Rattle.ndef_message.proofs.RecordSteps.{Turn, chunk_end, front_size, gone, progress_on, some_size, turn_on}
+use Rattle.ndef_message.proofs.RecordSteps.{ReadStep, chunk_end, front_size, gone, progress_on, some_size, turn_on}
 use Rattle.ndef_message.proofs.stepping.step.Goals as goal
 
 of_front : (c : goal.After-advanced) → let a = c.args in
@@ -28,7 +28,7 @@ of_part c =
     let n = c.put-of_part.ensures.count in
     omega (arith, begin, long, m, t, same, n)
 
-turn : (c : goal.After-advanced) → Turn c.args.plan.now c.args.progress c.args.kind.now c.args.id.now c.args.part.now c.put_chunk_front-of_front.result c.put-of_part.result
+turn : (c : goal.After-advanced) → ReadStep c.args.plan.now c.args.progress c.args.kind.now c.args.id.now c.args.part.now c.put_chunk_front-of_front.result c.put-of_part.result
 turn c =
     let a = c.args in
     let i = of_front c in

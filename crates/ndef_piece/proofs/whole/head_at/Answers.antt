@@ -10,4 +10,4 @@ returns c =
     head_from c.args.spot.now c.args.bytes.now _ (each_octet _ c.type_inv.bytes) c.in-len2-up.len_at_least n.payload_length i.id_length n.rest.now i.rest.now
     n.ensures.small n.ensures.form n.ensures.joined i.ensures.joined
     (rw (c.is_set.ensures, c.is_set-2.ensures, c.is_set-3.ensures, c.is_set-4.ensures, c.header_tnf.ensures, c.then_some.ensures, c.is_set-5.ensures, then_is) refl)
-    (rw (← c.from.ensures, ← c.from-2.ensures) (c.may_stand.ensures c.if-not-may_stand.false))
+    (rw (← c.from.ensures, ← c.from-2.ensures) (c.may_occur.ensures c.if-not-may_occur.false))

@@ -1,7 +1,7 @@
 use Rattle.std.proofs.Common.{rules, map, string_bytes, Some, None}
 use Rattle.clap.specs.Words.{kind_of, subcommand_of}
 use Rattle.clap.specs.declared.error.kind.ErrorKind.TheVariants.{OutOfMemory}
-use Rattle.ndef_program.specs.OptionLaws.{faulty}
+use Rattle.ndef_cli.specs.OptionLaws.{faulty}
 use Rattle.ndef_tool.specs.CommandLine.{ndef_app}
 use Rattle.ndef_tool.specs.Chosen.{chosen_of}
 use Rattle.ndef_tool.proofs.Chooses.{parsed, ndef_is_free, ndef_is_simple}

@@ -1,5 +1,5 @@
 use Rattle.std.proofs.Common.{◌++◌, codes, decimal}
-use Rattle.ndef_program.specs.Quoting.{quoted}
+use Rattle.ndef_cli.specs.Quoting.{quoted}
 use Rattle.ndef_tool.proofs.Lines.{on_ok, three_parts}
 use Rattle.ndef_tool.proofs.poster_lines.push_front.Goals as goal
 

@@ -1,5 +1,5 @@
 use Rattle.std.proofs.Common.{arith, refl}
-use Rattle.ndef_value.specs.SliceLaws.{behind_drop}
+use Rattle.ndef_value.specs.SliceLaws.{after_drop}
 use Rattle.ndef_tool.proofs.Bounded.{refused_bounded, viewed_bounded}
 use Rattle.ndef_tool.proofs.Sessions.{refused_bytes}
 use Rattle.ndef_tool.proofs.reading.view_next.Goals as goal
@@ -17,7 +17,7 @@ returns-in-Err-clause-next g c =
         on.0,
         refl,
         on.1,
-        refused_bytes g.L.RecordLanguage.payloads g.L.RecordLanguage.reasons c.args.limits c.args.left.now.now _ c.in-Err.refusal c.in-Err.ensures.refused (behind_drop c.in-Err.refusal.at c.args.left.now.now),
+        refused_bytes g.L.RecordLanguage.payloads g.L.RecordLanguage.reasons c.args.limits c.args.left.now.now _ c.in-Err.refusal c.in-Err.ensures.refused (after_drop c.in-Err.refusal.at c.args.left.now.now),
       ),
       refl,
     )

@@ -1,7 +1,7 @@
 use Rattle.std.proofs.Common.{◌∙◌, arith, inl, refl}
 use Rattle.std.proofs.KnownBytes.{Keeps-trans}
 use Rattle.ndef_tool.proofs.Bounded.{greatest_small}
-use Rattle.ndef_tool.proofs.Handling.{counts_more, fits_behind, handled_more, handled_in_part, silent_end, still_out}
+use Rattle.ndef_tool.proofs.Handling.{counts_more, fits_after, handled_more, handled_in_part, silent_end, still_out}
 use Rattle.ndef_tool.specs.Rules.{typed_rules}
 use Rattle.ndef_tool.proofs.Sessions.{takes_after}
 use Rattle.ndef_tool.proofs.session.handle_messages.Goals as goal
@@ -9,7 +9,7 @@ use Rattle.ndef_tool.proofs.session.handle_messages.Goals as goal
 pub returns-in-Err-clause-room : goal.returns-in-Err-clause-room
 returns-in-Err-clause-room g c =
     let before = c.loop-printed.invariant in
-    fits_behind c.args.choice.now.limits _ c.loop-printed.count c.loop-printed.at _ _ c.in-Err.ending c.profile.ensures.range before.few before.room c.in-Err.ensures.taken
+    fits_after c.args.choice.now.limits _ c.loop-printed.count c.loop-printed.at _ _ c.in-Err.outcome c.profile.ensures.range before.few before.room c.in-Err.ensures.taken
 
 pub returns-in_default-clause-handled : goal.returns-in_default-clause-handled
 returns-in_default-clause-handled g c = λ clear.
@@ -36,7 +36,7 @@ loop-printed-preserved g c =
 pub returns-in-Err-clause-silent : goal.returns-in-Err-clause-silent
 returns-in-Err-clause-silent g c = λ marked.
     let before = c.loop-printed.invariant in
-    silent_end c.args.choice.now _ _ _ _ _ _ c.loop-printed.count c.loop-printed.at _ _ c.in-Err.ending
+    silent_end c.args.choice.now _ _ _ _ _ _ c.loop-printed.count c.loop-printed.at _ _ c.in-Err.outcome
     (rw marked at before.so_far) before.few c.in-Err.ensures.prints.0 c.in-Err.ensures.prints.1 (before.mark ∙ marked)
 
 pub returns-in_default-clause-silent : goal.returns-in_default-clause-silent
@@ -49,6 +49,6 @@ returns-in-Err-clause-taken g c =
     let before = c.loop-printed.invariant in
     let t = c.in-Err.ensures.taken in (
       t.0,
-      takes_after (typed_rules c.args.choice.now.limits) _ _ before.so_far.reads c.loop-printed.at t.0 c.in-Err.ending before.so_far.follow before.so_far.place t.1,
+      takes_after (typed_rules c.args.choice.now.limits) _ _ before.so_far.reads c.loop-printed.at t.0 c.in-Err.outcome before.so_far.follow before.so_far.place t.1,
       counts_more _ _ _ c.loop-printed.at t.0 before.taken t.2,
     )

@@ -51,7 +51,7 @@ loop-piece-preserved g c =
     let l = c.loop-piece in
     let payload = (run_record c.args.item.now).payload in
     let piece = c.in-Some-piece.piece.now in
-    let behind = concat c.next.new.self in
+    let following = concat c.next.new.self in
     let split = l.invariant.rest ∙ ap concat c.in-Some-piece.ensures.steps in
     let set = L.payloads c.args.kind 65535 c.args.profile in
     let new = L.future c.step_all-count.new.self in
@@ -59,18 +59,18 @@ loop-piece-preserved g c =
     let reached = L.reached c.step_all-count.new.self c.args.kind 65535 c.args.profile in
     let k = c.step_all-count.result in
     let within = c.step_all-count.ensures.steps.within in
-    let few = lemmas.piece_within payload piece behind l.at l.left l.invariant.counted split in
+    let few = lemmas.piece_within payload piece following l.at l.left l.invariant.counted split in
     let counted = l.invariant.counted in
     let e : k ≡ length piece = omega arith in
     let done = steps_done c.step_all-count.ensures.steps e in
     let reaches = subst (λ n. Reaches old_reached reached (take (n + 1) piece)) e (c.step_all-count.ensures.reached c.args.kind 65535 c.args.profile) in
     record {
       counted = omega arith;
-      rest = subst (λ n. drop (l.at + n) payload ≡ behind) (sym e) (lemmas.behind_piece payload piece behind l.at l.left counted split);
+      rest = subst (λ n. drop (l.at + n) payload ≡ following) (sym e) (lemmas.after_piece payload piece following l.at l.left counted split);
       stepped = subst (λ n. Continues set new (take (l.at + n) payload)) (sym e)
-          (lemmas.stepped_behind payload piece behind l.at l.left counted split set (L.future l.state) new l.invariant.stepped done.0);
+          (lemmas.stepped_after payload piece following l.at l.left counted split set (L.future l.state) new l.invariant.stepped done.0);
       reached = subst (λ n. reached (take (l.at + n) payload)) (sym e)
-          (lemmas.reached_behind payload piece behind l.at l.left counted split set (L.future l.state) new l.invariant.stepped old_reached reached reaches l.invariant.reached);
+          (lemmas.reached_after payload piece following l.at l.left counted split set (L.future l.state) new l.invariant.stepped old_reached reached reaches l.invariant.reached);
       fits = subst (λ n. PassesBetween new (l.left - n) (l.left - n)) (sym e) done.1;
     }
 

@@ -9,16 +9,16 @@ use Rattle.ndef_fields.proofs.message_fields.Fields.of_front.Goals as goal
 
 pub pieces_cursor-requires : goal.pieces_cursor-requires
 pieces_cursor-requires c =
-    let w = c.behind_pieces-rest.ensures.whole in
+    let w = c.after_pieces-rest.ensures.whole in
     let e = c.split_at.ensures.front ∙ front_is c.args.bytes.now _ w in
     subst AreOuter (sym e) (whole_outer c.requires.0 c.args.bytes.now _ c.requires.1 w)
 
 pub begin_front-begun-requires : goal.begin_front-begun-requires
 begin_front-begun-requires c =
-    let w = c.behind_pieces-rest.ensures.whole in
+    let w = c.after_pieces-rest.ensures.whole in
     let e = c.split_at.ensures.front ∙ front_is c.args.bytes.now _ w in
     let n = ap length e in
-    let m = ap length w.split ∙ length-append w.front c.behind_pieces-rest.result.now in
+    let m = ap length w.split ∙ length-append w.front c.after_pieces-rest.result.now in
     omega (arith, n, m)
 
 pub invariant_of-result : goal.invariant_of-result
@@ -29,8 +29,8 @@ invariant_of-result c =
 
 pub returns : goal.returns
 returns c =
-    let w = c.behind_pieces-rest.ensures.whole in
-    let rest = c.behind_pieces-rest.result.now in
+    let w = c.after_pieces-rest.ensures.whole in
+    let rest = c.after_pieces-rest.result.now in
     let p = c.pieces_cursor.ensures in
     let b = c.begin_front-begun.ensures in
     let holds = whole_holds c.requires.0 c.args.bytes.now rest c.requires.1 w in

@@ -1,7 +1,7 @@
 use Rattle.std.proofs.Common.{◌∙◌, refl, sym, subst, length}
 use Rattle.std.proofs.lemmas.Bool.{eqb-true}
 use Rattle.ndef_format.specs.Records.{AreOctets}
-use Rattle.ndef_value.specs.SliceLaws.{each_octet, octets_drop, octets_behind}
+use Rattle.ndef_value.specs.SliceLaws.{each_octet, octets_drop, octets_after}
 use Rattle.ndef_lang.specs.Machine.Leaf.{CompletesStage}
 use Rattle.ndef_lang.proofs.Members.{field_taken, stage_taken, nothing_left}
 use Rattle.ndef_lang.proofs.leaf.Leaf.is_completed_by.Goals as goal
@@ -16,7 +16,7 @@ loop-state-preserved c =
     let f = c.in-Field in
     let octets : AreOctets back = subst AreOctets (sym c.split_at.ensures.back) (octets_drop c.in-Field.left s c.loop-state.invariant.octets) in
     record {
-      octets = octets_behind 1 back octets;
+      octets = octets_after 1 back octets;
       before = λ h. c.loop-state.invariant.before (field_taken c.loop-state.state f.left c.in-Field.left f.class f.next s c.split_at.result.0.now back f.is refl c.if-rest-left.false c.split_at.ensures.front c.split_at.ensures.back
           (c.has_all.ensures c.if-not-has_all.false) (stage_taken f.next c.after-state.result back c.in-len1-up.len_at_least c.after-state.ensures.future h));
     }

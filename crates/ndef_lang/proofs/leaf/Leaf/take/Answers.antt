@@ -9,7 +9,7 @@ use Rattle.ndef_lang.specs.Language.{Continues, PassesBetween, Reaches, StepsFro
 use Rattle.ndef_lang.specs.StepLaws.{rest, follows_none, reaches_none, passes_none, follows_take, reaches_take, steps_refused, follows_rest, reaches_rest, front_passes, steps_through, all_reached, steps_on, reaches_on, reason_on, rest_length}
 use Rattle.ndef_lang.specs.Machine.Utf8.{CompletesUtf8}
 use Rattle.ndef_lang.specs.declared.leaf.Leaf.TheVariants.{Utf8}
-use Rattle.ndef_lang.specs.Machine.Leaf.{CompletesLeaf, GoesOn, Holds, ReachedBy, leaf_lengths, leaf_told}
+use Rattle.ndef_lang.specs.Machine.Leaf.{CompletesLeaf, GoesOn, Holds, ReachedBy, leaf_lengths, leaf_reason}
 use Rattle.ndef_lang.specs.Machine.LeafLaws.{are_leaf_lengths}
 use Rattle.ndef_lang.proofs.PlaceLemmas.{not_true}
 use Rattle.ndef_lang.proofs.StageLemmas.{text_goes, reached_first, staged_reached, staged_reason, utf8_staged_reason}
@@ -71,7 +71,7 @@ returns-then-not-meet c =
     record {
       steps = steps_refused (CompletesLeaf old) (CompletesLeaf front) (CompletesLeaf new) bytes c.args.lo c.args.hi at less follows fits c.after.ensures.future refused;
       goes = reaches_take (ReachedBy old (Holds old)) (ReachedBy front (Holds old)) (ReachedBy new (Holds old)) bytes at less come (staged_reached front new (_ ∷ []) c.after.ensures.future c.after.ensures.goes (Holds old)) [] (reached_first old);
-      reason = λ less. staged_reason front _ (leaf_told new) c.after.ensures.reason (Holds old) (take at bytes) (come [] (reached_first old)) (fits.rest, fits.passed);
+      reason = λ less. staged_reason front _ (leaf_reason new) c.after.ensures.reason (Holds old) (take at bytes) (come [] (reached_first old)) (fits.rest, fits.passed);
     }
 
 pub returns-then-at-bytes : goal.returns-then-at-bytes

@@ -1,7 +1,8 @@
 use Rattle.std.proofs.Common.{arith}
 use Rattle.ndef_format.specs.Texts.{is_wide, code_length}
 use Rattle.ndef_lang.specs.declared.leaf.Stage.TheVariants as stages
-use Rattle.ndef_lang.proofs.StageLemmas.{coded_text, code_goes, plain_goes}
+use Rattle.ndef_lang.proofs.StageLemmas.{code_goes, plain_goes}
+use Rattle.ndef_lang.specs.Machine.LeafLaws.{coded_text}
 use Rattle.ndef_lang.proofs.leaf.Stage.field_after.Goals as goal
 
 pub returns-in-Status-clause-future : goal.returns-in-Status-clause-future

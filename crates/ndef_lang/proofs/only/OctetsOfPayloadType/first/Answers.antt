@@ -1,5 +1,6 @@
 use Rattle.ndef_lang.specs.declared.leaf.Stage.TheVariants as stages
-use Rattle.ndef_lang.proofs.StageLemmas.{octets_to_end, plain_goes}
+use Rattle.ndef_lang.proofs.StageLemmas.{plain_goes}
+use Rattle.ndef_lang.specs.Machine.LeafLaws.{octets_to_end}
 use Rattle.ndef_lang.proofs.only.OctetsOfPayloadType.first.Goals as goal
 
 pub returns-clause-future : goal.returns-clause-future

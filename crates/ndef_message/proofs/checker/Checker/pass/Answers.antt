@@ -2,7 +2,7 @@ use Rattle.std.proofs.Common.{◌+◌, ◌≤◌, ◌^◌, ◌++◌, suc, sym, s
 use Rattle.std.proofs.Math.Logic.{∥∥₁_map}
 use Rattle.std.proofs.lemmas.List.{append-nil}
 use Rattle.ndef_message.specs.Machine.Checkers.{CheckerReached}
-use Rattle.ndef_message.proofs.Accepting.{taken_bounded, taken_knows}
+use Rattle.ndef_message.proofs.Accepting.{taken_bounded, taken_matches_input}
 use Rattle.ndef_message.proofs.Feeding.{going}
 use Rattle.ndef_message.proofs.Somewhere.{number_of_some}
 use Rattle.ndef_message.proofs.checker.Checker.pass.Goals as goal
@@ -24,7 +24,7 @@ invariant_of-self g c =
     record {
       led = ∥∥₁_map s.led (λ w.
           let x = took.ensures.onward w.0 w.1 w.2 (going g.L.RecordLanguage s.limits s.state 0 w.0 w.1 w.2 c.requires.going w.3.1) in
-          (w.0 ++ take took.result c.args.bytes.now, x.0, x.1, taken_knows g.L.RecordLanguage s.limits took.new.self w.0 c.args.bytes.now took.result s.taken took.ensures.within w.3.0 x.0 x.1 x.2));
+          (w.0 ++ take took.result c.args.bytes.now, x.0, x.1, taken_matches_input g.L.RecordLanguage s.limits took.new.self w.0 c.args.bytes.now took.result s.taken took.ensures.within w.3.0 x.0 x.1 x.2));
     }
 
 pub returns-then-tried-clause-onward : goal.returns-then-tried-clause-onward
@@ -35,4 +35,4 @@ returns-clause-onward g c front given point k =
     let s = c.args.self.now in
     let took = c.take_pieces-taken in
     let x = took.ensures.onward front given point (going g.L.RecordLanguage s.limits s.state 0 front given point c.requires.going k.1) in
-    (x.0, x.1, taken_knows g.L.RecordLanguage s.limits took.new.self front c.args.bytes.now took.result s.taken took.ensures.within k.0 x.0 x.1 x.2)
+    (x.0, x.1, taken_matches_input g.L.RecordLanguage s.limits took.new.self front c.args.bytes.now took.result s.taken took.ensures.within k.0 x.0 x.1 x.2)

@@ -2,9 +2,9 @@ use Rattle.std.proofs.Common.{◌≡◌, ◌+◌, ◌-◌, ◌≤◌, ◌^◌, �
 use Rattle.std.proofs.Math.Logic.{∥∥₁_map}
 use Rattle.ndef_format.specs.HeadReasons.{is_set}
 use Rattle.ndef_piece.specs.Whole.{shown}
-use Rattle.ndef_message.specs.Machine.Accepted.{IsBehind}
-use Rattle.ndef_message.specs.Machine.State.{answer_of, behind_record}
-use Rattle.ndef_message.proofs.Accepting.{record_passed, split_shorter, taken_bounded, taken_knows}
+use Rattle.ndef_message.specs.Machine.Accepted.{IsAfter}
+use Rattle.ndef_message.specs.Machine.State.{answer_of, after_record}
+use Rattle.ndef_message.proofs.Accepting.{record_passed, split_shorter, taken_bounded, taken_matches_input}
 use Rattle.ndef_message.proofs.Feeding.{going}
 use Rattle.ndef_message.proofs.Somewhere.{number_of_some}
 use Rattle.ndef_message.proofs.checker.Checker.pass_record.Goals as goal
@@ -20,12 +20,12 @@ overflow_add-self g c =
     let s = c.args.self.now in
     let p = c.args.piece.now in
     let count = length c.args.bytes.now - length p.rest.now in
-    let new = c.go_behind.new.self in
+    let new = c.advance_past.new.self in
     let laws = c.format_laws.ensures in
-    let behind : IsBehind s.limits new (behind_record s.limits s.state.place) (is_set 6 p.header) = rw (sym c.behind_record-place.ensures, sym c.is_last.ensures) c.go_behind.ensures in
+    let following : IsAfter s.limits new (after_record s.limits s.state.place) (is_set 6 p.header) = rw (sym c.after_record-place.ensures, sym c.is_last.ensures) c.advance_past.ensures in
     let due : answer_of s.state.phase 0 ≡ None = ap (λ p. answer_of p 0) c.requires.fresh.phase_is in
     let n : suc (s.taken + count) ≤ 2 ^ 60 = number_of_some _ _ _ s.led (λ w.
-    let x = record_passed laws.laws s.limits laws.range g.met.L.RecordLanguage.others s.state new c.args.bytes.now p count c.requires.fresh c.requires.begins refl behind
+    let x = record_passed laws.laws s.limits laws.range g.met.L.RecordLanguage.others s.state new c.args.bytes.now p count c.requires.fresh c.requires.begins refl following
     w.0 w.1 w.2 (going g.L.RecordLanguage s.limits s.state 0 w.0 w.1 w.2 due w.3.1) in
     taken_bounded g.L.RecordLanguage s.limits new w.0 c.args.bytes.now count s.taken (omega arith) w.3.0 _ x.0 x.2 laws.laws laws.range) in
     omega arith
@@ -35,15 +35,15 @@ invariant_of-self g c =
     let s = c.args.self.now in
     let p = c.args.piece.now in
     let count = length c.args.bytes.now - length p.rest.now in
-    let new = c.go_behind.new.self in
+    let new = c.advance_past.new.self in
     let laws = c.format_laws.ensures in
-    let behind : IsBehind s.limits new (behind_record s.limits s.state.place) (is_set 6 p.header) = rw (sym c.behind_record-place.ensures, sym c.is_last.ensures) c.go_behind.ensures in
+    let following : IsAfter s.limits new (after_record s.limits s.state.place) (is_set 6 p.header) = rw (sym c.after_record-place.ensures, sym c.is_last.ensures) c.advance_past.ensures in
     let due : answer_of s.state.phase 0 ≡ None = ap (λ p. answer_of p 0) c.requires.fresh.phase_is in
     record {
       led = ∥∥₁_map s.led (λ w.
-          let x = record_passed laws.laws s.limits laws.range g.met.L.RecordLanguage.others s.state new c.args.bytes.now p count c.requires.fresh c.requires.begins refl behind
+          let x = record_passed laws.laws s.limits laws.range g.met.L.RecordLanguage.others s.state new c.args.bytes.now p count c.requires.fresh c.requires.begins refl following
           w.0 w.1 w.2 (going g.L.RecordLanguage s.limits s.state 0 w.0 w.1 w.2 due w.3.1) in
-          (w.0 ++ take count c.args.bytes.now, _, x.0, taken_knows g.L.RecordLanguage s.limits new w.0 c.args.bytes.now count s.taken (omega arith) w.3.0 _ x.0 x.2));
+          (w.0 ++ take count c.args.bytes.now, _, x.0, taken_matches_input g.L.RecordLanguage s.limits new w.0 c.args.bytes.now count s.taken (omega arith) w.3.0 _ x.0 x.2));
     }
 
 pub returns-clause-onward : goal.returns-clause-onward
@@ -51,10 +51,10 @@ returns-clause-onward g c front given point k =
     let s = c.args.self.now in
     let p = c.args.piece.now in
     let count = length c.args.bytes.now - length p.rest.now in
-    let new = c.go_behind.new.self in
+    let new = c.advance_past.new.self in
     let laws = c.format_laws.ensures in
-    let behind : IsBehind s.limits new (behind_record s.limits s.state.place) (is_set 6 p.header) = rw (sym c.behind_record-place.ensures, sym c.is_last.ensures) c.go_behind.ensures in
+    let following : IsAfter s.limits new (after_record s.limits s.state.place) (is_set 6 p.header) = rw (sym c.after_record-place.ensures, sym c.is_last.ensures) c.advance_past.ensures in
     let due : answer_of s.state.phase 0 ≡ None = ap (λ p. answer_of p 0) c.requires.fresh.phase_is in
-    let x = record_passed laws.laws s.limits laws.range g.met.L.RecordLanguage.others s.state new c.args.bytes.now p count c.requires.fresh c.requires.begins refl behind
+    let x = record_passed laws.laws s.limits laws.range g.met.L.RecordLanguage.others s.state new c.args.bytes.now p count c.requires.fresh c.requires.begins refl following
     front given point (going g.L.RecordLanguage s.limits s.state 0 front given point due k.1) in
-    (x.0, x.1, taken_knows g.L.RecordLanguage s.limits new front c.args.bytes.now count s.taken (omega arith) k.0 _ x.0 x.2)
+    (x.0, x.1, taken_matches_input g.L.RecordLanguage s.limits new front c.args.bytes.now count s.taken (omega arith) k.0 _ x.0 x.2)

@@ -12,7 +12,7 @@ returns g c =
     let laws = c.format_laws.ensures in
     record {
       stands = λ bytes given d f w members.
-          c.settle.ensures.stands bytes given d f [] [] []
+          c.advance_field.ensures.stands bytes given d f [] [] []
           (heads.whole_bare laws.laws laws.range g.met.L.RecordLanguage.payloads_are_octets g.met.L.RecordLanguage.others w c.requires.outside (omega arith) c.unwrap_or-id_left.ensures c.records.ensures.value c.profile.ensures.value refl c.start.ensures.future c.start.ensures.reached)
           (heads.begun_viable laws.laws laws.range g.met.L.RecordLanguage.payloads_are_octets g.met.L.RecordLanguage.others w c.requires.outside members);
     }

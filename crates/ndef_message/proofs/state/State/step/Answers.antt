@@ -1,7 +1,7 @@
 use Rattle.std.proofs.Common.{◌≡◌, ◌≤◌, ◌∙◌, ap, subst, sym, arith, take, length-take}
 use Rattle.std.proofs.lemmas.List.{take-take, length-take-le}
 use Rattle.ndef_message.specs.Machine.Fronts.{SomeLed}
-use Rattle.ndef_message.specs.Machine.State.{Onward, Stands}
+use Rattle.ndef_message.specs.Machine.State.{Onward, IsConsistentAt}
 use Rattle.ndef_message.proofs.Feeding.{take_one}
 use Rattle.ndef_message.proofs.Octets as octets
 use Rattle.ndef_message.proofs.Somewhere.{number_of_some}
@@ -18,12 +18,12 @@ pub returns-in-Some-clause-onward : goal.returns-in-Some-clause-onward
 returns-in-Some-clause-onward g c front given point stands at going = c.in-Some.ensures.onward front given point stands
 
 pub in_head-requires-clause-led : goal.in_head-requires-clause-led
-in_head-requires-clause-led g c = subst (λ state. ∥ SomeLed (Stands g.L.RecordLanguage c.args.limits.now state) ∥₁) (sym c.in-None.ensures.none) c.requires.led
+in_head-requires-clause-led g c = subst (λ state. ∥ SomeLed (IsConsistentAt g.L.RecordLanguage c.args.limits.now state) ∥₁) (sym c.in-None.ensures.none) c.requires.led
 
 pub returns-in-None-clause-onward : goal.returns-in-None-clause-onward
 returns-in-None-clause-onward g c front given point stands at going =
     let n = c.in_head.new.self in
-    let same = subst (λ state. Stands g.L.RecordLanguage c.args.limits.now state front given point) (sym c.in-None.ensures.none) stands in
+    let same = subst (λ state. IsConsistentAt g.L.RecordLanguage c.args.limits.now state front given point) (sym c.in-None.ensures.none) stands in
     subst (Onward g.L.RecordLanguage c.args.limits.now n front given point) (sym (take_one c.args.bytes.now c.requires.some)) (c.in_head.ensures.onward front given point same at)
 
 pub in_type-requires-clause-some : goal.in_type-requires-clause-some

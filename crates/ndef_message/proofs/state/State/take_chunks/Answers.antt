@@ -1,5 +1,5 @@
 use Rattle.ndef_message.proofs.Accepting.{none_taken}
-use Rattle.ndef_message.proofs.OpenRuns.{chunks_lead}
+use Rattle.ndef_message.proofs.OpenRuns.{chunks_are_reachable}
 use Rattle.ndef_message.proofs.state.State.take_chunks.Goals as goal
 
 pub returns-then-not-is_at_chunk-clause-onward : goal.returns-then-not-is_at_chunk-clause-onward
@@ -10,5 +10,5 @@ returns-then-taken-gt0-clause-onward g c =
     let laws = c.format_laws.ensures in
     let old = c.args.self.now in
     let found = c.accepted_chunks-taken in
-    chunks_lead laws.laws g.L.RecordLanguage c.args.limits.now laws.range old c.go_behind_chunks.new.self found.result.1 _ (g.met.L.RecordLanguage.future_octets old.payload) (c.is_at_chunk.ensures c.if-not-is_at_chunk.false)
-    found.ensures.chunks c.go_behind_chunks.ensures
+    chunks_are_reachable laws.laws g.L.RecordLanguage c.args.limits.now laws.range old c.advance_past_chunks.new.self found.result.1 _ (g.met.L.RecordLanguage.future_octets old.payload) (c.is_at_chunk.ensures c.if-not-is_at_chunk.false)
+    found.ensures.chunks c.advance_past_chunks.ensures

@@ -42,10 +42,10 @@ returns-clause-onward g c front given point stands =
     let w = heads.whole_fresh laws.laws laws.range g.met.L.RecordLanguage.payloads_are_octets g.met.L.RecordLanguage.others a c.in_ok-head.ensures.fresh c.in_ok-head.ensures.begins.whole in
     let body = heads.whole_inside laws.laws laws.range g.met.L.RecordLanguage.payloads_are_octets g.met.L.RecordLanguage.others w.1 c.if-not-self.false in
     let members = entered.given_members laws.laws _ _ laws.range front given point stands.at stands.viable in
-    let can = entered.told_yes (g.met.L.RecordLanguage.exact c.args.self.now.payload) c.fits.ensures c.from.ensures c.most_left-most.ensures (entered.body_small laws.laws laws.range body) c.if-not-fits.false in
+    let can = entered.reported_yes (g.met.L.RecordLanguage.exact c.args.self.now.payload) c.fits.ensures c.from.ensures c.most_left-most.ensures (entered.body_small laws.laws laws.range body) c.if-not-fits.false in
     inl (
       given_next c.args.limits.now given a.c w.0 [] [] [],
       point_next c.args.limits.now a.c w.0 [] [] [],
       heads.moves_head c.args.limits.now given point t a.c a.xs w.0 a.point_is w.1.stands w.2,
-      c.settle.ensures.stands (front ++ t) given a.c w.0 [] [] [] body (entered.body_goes_on laws.laws laws.range body g.met.L.RecordLanguage.payloads_are_octets g.met.L.RecordLanguage.others members can),
+      c.advance_field.ensures.stands (front ++ t) given a.c w.0 [] [] [] body (entered.body_goes_on laws.laws laws.range body g.met.L.RecordLanguage.payloads_are_octets g.met.L.RecordLanguage.others members can),
     )

@@ -1,7 +1,7 @@
 use Rattle.std.proofs.Common.{◌<◌, ◌∙◌, ap, length, take, arith}
 use Rattle.std.proofs.lemmas.List.{length-take-le}
 use Rattle.ndef_message.specs.Machine.State.{numbers}
-use Rattle.ndef_message.proofs.Accepting.{between, leads_behind, none_taken, records_come}
+use Rattle.ndef_message.proofs.Accepting.{between, reaches_after, none_taken, records_come}
 use Rattle.ndef_message.proofs.state.State.take_records.Goals as goal
 
 pub returns-then-not-is_fresh-clause-onward : goal.returns-then-not-is_fresh-clause-onward
@@ -14,5 +14,5 @@ returns-then-taken-gt0-clause-onward g c front given point s =
     let a = between g.L.RecordLanguage c.args.limits.now c.args.self.now front given point (c.is_fresh.ensures c.if-not-is_fresh.false) s in
     let x = found.ensures.records.comes a.c a.place_is a.none a.over in
     let some : 0 < length (take found.result.0 c.args.bytes.now) = omega (arith, length-take-le found.result.0 c.args.bytes.now found.ensures.records.within) in
-    let w = leads_behind laws.laws laws.range g.met.L.RecordLanguage.others a.at a.viable found.result.2 (records_come x some) c.go_behind.new.self (x.place_is ∙ ap numbers (x.some some)) c.go_behind.ensures in
+    let w = reaches_after laws.laws laws.range g.met.L.RecordLanguage.others a.at a.viable found.result.2 (records_come x some) c.advance_past.new.self (x.place_is ∙ ap numbers (x.some some)) c.advance_past.ensures in
     (_, w.0, w.2)

@@ -14,15 +14,15 @@ returns-then-branch-clause-keeps g c =
     let apart = c.in_ok-is_shown_by.ensures.some c.if-branch.true in
     let some : 0 < length (slice_range c.args.copy.now left.start left.end) = omega (arith, length-slice_range c.args.copy.now left.start left.end (omega arith)) in
     let within = c.in_ok-is_shown_by.ensures.within c.if-branch.true in
-    left_shown_again _ _ _ _ _ _ c.in_ok-settle.ensures.keeps c.is_shown_by.ensures.keeps some (slice_range_fits _ _ _) within
+    left_shown_again _ _ _ _ _ _ c.in_ok-consume_pending.ensures.keeps c.is_shown_by.ensures.keeps some (slice_range_fits _ _ _) within
 
 pub returns-clause-shows : goal.returns-clause-shows
 returns-clause-shows g c =
-    let kept = Keeps-trans _ _ _ c.in_ok-settle.ensures.keeps c.in_ok-is_shown_by.ensures.keeps in
+    let kept = Keeps-trans _ _ _ c.in_ok-consume_pending.ensures.keeps c.in_ok-is_shown_by.ensures.keeps in
     shows_anew _ _ _ _ kept c.in_ok-end.ensures.shows
 
 pub returns-clause-keeps : goal.returns-clause-keeps
 returns-clause-keeps g c =
-    let kept = Keeps-trans _ _ _ c.in_ok-settle.ensures.keeps c.in_ok-is_shown_by.ensures.keeps in
+    let kept = Keeps-trans _ _ _ c.in_ok-consume_pending.ensures.keeps c.in_ok-is_shown_by.ensures.keeps in
     let fits : length (slice_range c.copy_front.new.copy 0 c.in_ok-end.end) ≤ c.in_ok-end.end = omega (arith, slice_range_fits c.copy_front.new.copy 0 c.in_ok-end.end) in
     left_shown_anew _ _ _ _ _ _ _ kept c.in_ok-end.ensures.keeps c.in_ok-end.ensures.shows fits c.in_ok-end.ensures.within

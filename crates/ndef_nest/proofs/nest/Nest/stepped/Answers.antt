@@ -4,7 +4,7 @@ use Rattle.ndef_nest.specs.declared.phase.NestPhase.TheVariants as phases
 use Rattle.ndef_nest.specs.Machine.SpanLaws.{some_records}
 use Rattle.ndef_nest.proofs.Steps.{fresh, fresh_completes, some_left}
 use Rattle.ndef_nest.proofs.Reaching.{reached_on, fresh_come, started_come, records_pass}
-use Rattle.ndef_nest.proofs.Reasons.{told_on, told_in_name, told_in_body, ended, told_at_last}
+use Rattle.ndef_nest.proofs.Reasons.{reason_goes_on, reason_in_name, reason_in_body, ended, reason_at_last}
 use Rattle.ndef_nest.proofs.nest.Nest.stepped.Goals as goal
 
 pub returns-in-Start-clause-reached : goal.returns-in-Start-clause-reached
@@ -27,7 +27,7 @@ returns-in-Start-clause-reason c kind records profile s x p =
     let empty = c.new-self.ensures.empty in
     let none = ap (λ q. q.octets) empty in
     let not_version : n.phase ≢ phases.Version = λ e. (let i = c.in-Start.is in cc) in
-    told_on n kind records profile s c.args.byte c.at_head.new.self.told not_version
+    reason_goes_on n kind records profile s c.args.byte c.at_head.new.self.reason not_version
     (λ m h. c.at_head.ensures.reason records m
     (started_come n.context c.new-self.result.spot.first c.new-self.result.octets records m none (ap (λ q. q.spot.first) empty ∙ ap (λ p. p.first) c.spot.ensures) (rw c.in-Start.is at h))
     (records_pass n.context c.new-self.result.spot.first c.new-self.result.octets none n.suited (some_records n.context.records (rw c.in-Start.is at n.sound)))) x
@@ -47,7 +47,7 @@ pub returns-in-Head-clause-reason : goal.returns-in-Head-clause-reason
 returns-in-Head-clause-reason c kind records profile s x p =
     let n = c.args.self.now in
     let not_version : n.phase ≢ phases.Version = λ e. (let i = c.in-Head.is in cc) in
-    told_on n kind records profile s c.args.byte c.at_head-in-Head.new.self.told not_version
+    reason_goes_on n kind records profile s c.args.byte c.at_head-in-Head.new.self.reason not_version
     (λ m h. c.at_head-in-Head.ensures.reason records m h p) x
 
 pub returns-in-Name-clause-future : goal.returns-in-Name-clause-future
@@ -74,9 +74,9 @@ returns-in-Name-clause-reason c kind records profile s x p =
     let i = c.in-Name.name in
     let h = some_left _ _ (missing_of i.names) (rw c.in-Name.is at n.sound) in
     let not_version : n.phase ≢ phases.Version = λ e. (let j = c.in-Name.is in cc) in
-    told_on n kind records profile s c.args.byte c.reason-self.result not_version
+    reason_goes_on n kind records profile s c.args.byte c.reason-self.result not_version
     (λ m come. rw c.reason-self.ensures
-    (told_in_name c.fields_are_told.ensures.one n.context i records m c.args.byte h (rw c.in-Name.is at p) (rw c.in-Name.is at come))) x
+    (reason_in_name c.next_fields_are_exact.ensures.one n.context i records m c.args.byte h (rw c.in-Name.is at p) (rw c.in-Name.is at come))) x
 
 pub returns-in-Body-clause-reached : goal.returns-in-Body-clause-reached
 returns-in-Body-clause-reached c kind records profile s x =
@@ -96,8 +96,8 @@ returns-in-Body-clause-reason c kind records profile s x p =
     let i = c.in-Body.body in
     let h = some_left _ _ (i.id + i.payload) (rw c.in-Body.is at n.sound) in
     let not_version : n.phase ≢ phases.Version = λ e. (let j = c.in-Body.is in cc) in
-    told_on n kind records profile s c.args.byte c.step-phase.result.1 not_version
-    (λ m come. told_in_body c.fields_are_told.ensures.one k i records m c.args.byte c.step-phase.result.1 h
+    reason_goes_on n kind records profile s c.args.byte c.step-phase.result.1 not_version
+    (λ m come. reason_in_body c.next_fields_are_exact.ensures.one k i records m c.args.byte c.step-phase.result.1 h
     c.step-phase.ensures.in_id c.step-phase.ensures.in_payload (rw c.in-Body.is at p) (rw c.in-Body.is at come)) x
 
 pub returns-in-Ended-clause-reached : goal.returns-in-Ended-clause-reached
@@ -111,4 +111,4 @@ returns-in-Ended-clause-reached c kind records profile s x =
 pub returns-in-Ended-clause-reason : goal.returns-in-Ended-clause-reason
 returns-in-Ended-clause-reason c kind records profile s x p =
     let n = c.args.self.now in
-    told_at_last c.fields_are_told.ensures.one n kind records profile s c.args.byte c.in-Ended.is p x
+    reason_at_last c.next_fields_are_exact.ensures.one n kind records profile s c.args.byte c.in-Ended.is p x

@@ -65,14 +65,14 @@ returns-then-count-looked-clause-reached c kind records profile =
 pub returns-then-count-looked-clause-reason : goal.returns-then-count-looked-clause-reason
 returns-then-count-looked-clause-reason c less kind records profile s x =
     let holds = NestReason (table_of kind) records profile in
-    let told = c.step_some-looked.new.self.told in
+    let reason = c.step_some-looked.new.self.reason in
     let at = c.loop-at.at in
     let looked = c.step_some-looked.result.0 in
     let count = c.step_some-looked.result.1 in
     let bytes = c.args.bytes.now in
     let front = s ++ take at bytes in
-    reason_on holds told bytes s at count
-    (reason_front holds told (rest bytes at) front looked count c.if-count-looked.true
+    reason_on holds reason bytes s at count
+    (reason_front holds reason (rest bytes at) front looked count c.if-count-looked.true
     (c.step_some-looked.ensures.reason c.if-count-looked.true kind records profile front (c.loop-at.invariant.reached kind records profile s x)))
 
 pub returns-clause-reached : goal.returns-clause-reached

@@ -16,7 +16,7 @@ returns-clause-steps c lo hi p =
     let count = c.step_all-count.result in
     let old = CompletesLeaf s.leaf in
     let new = CompletesLeaf c.step_all-count.new.self in
-    let z = c.requires.behind_id in
+    let z = c.requires.after_id in
     let taken : length (take (count + 1) bytes) ≡ c.min-taken.result = omega (arith, c.min-taken.ensures, length-take (count + 1) bytes) in
     let steps : StepsAll old new bytes s.payload s.payload count = rw c.from-length.ensures at c.step_all-count.ensures.steps in
     let all = body_steps old new tail s.payload bytes lo hi count c.requires.few steps (subst (λ i. PassesBetween (IsBody old i s.payload tail) lo hi) z p) in
@@ -32,7 +32,7 @@ returns-clause-come c records m h =
     let count = c.step_all-count.result in
     let new = c.step_all-count.new.self in
     let front = take (count + 1) bytes in
-    let z = c.requires.behind_id in
+    let z = c.requires.after_id in
     let few = c.requires.few in
     let come = payload_come x s new (s.payload - c.min-taken.result) records m front z (octets_taken (count + 1) bytes (octets_each _ c.type_inv.bytes)) (omega (arith, c.min-taken.ensures, length-take (count + 1) bytes))
     (λ kind. c.step_all-count.ensures.reached kind 1 x.profile) h in

@@ -15,6 +15,6 @@ split_counted-requires c = name_fits _ _ (omega (arith, c.if-index-from.false, c
 pub returns : goal.returns
 returns c = λ v h.
     let octets = c.after_reference-octets.result.now in
-    let names : StandForNames (get_or octets 0 0) c.behind_first.result.now v.auxiliary v.rest = rw c.behind_first.ensures (auxiliary_stand octets v.auxiliary v.rest (c.after_reference-octets.ensures.stand v h)) in
+    let names : StandForNames (get_or octets 0 0) c.after_first.result.now v.auxiliary v.rest = rw c.after_first.ensures (auxiliary_stand octets v.auxiliary v.rest (c.after_reference-octets.ensures.stand v h)) in
     ap Some c.split_counted.ensures.field
     ∙ sym (name_is v.auxiliary c.args.index _ c.skip-left.result.now v.rest (omega (arith, c.if-index-from.false, c.from.ensures)) (c.skip-left.ensures.left v.auxiliary v.rest names))

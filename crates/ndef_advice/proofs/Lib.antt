@@ -1,9 +1,0 @@
-pub mod Counts
-pub mod Nests
-pub mod PieceFronts
-pub mod RecordTruths
-pub mod References
-pub mod Sames
-pub mod TagMemory
-pub mod Tests
-pub mod Truths

@@ -1,6 +1,0 @@
-use Rattle.std.proofs.Common.{ℕ, ◌<◌, ◌≤◌, drop}
-use Rattle.ndef_advice.specs.Hints.{BeginsWithMessage}
-use Rattle.ndef_advice.proofs.hint.message_near.Given as goal
-
-abbrev pub invariant-loop-place : goal.invariant-loop-place
-invariant-loop-place l = (k : ℕ) → 1 ≤ k → k < l.place → ¬ BeginsWithMessage l.limits (drop k l.bytes)

@@ -1,6 +1,0 @@
-use Rattle.std.proofs.Common.{◌≡◌, ℕ, ◌<◌, false}
-use Rattle.ndef_advice.specs.TagMemory.{is_container}
-use Rattle.ndef_advice.proofs.tag_memory.first_container.Given as goal
-
-abbrev pub invariant-loop-place : goal.invariant-loop-place
-invariant-loop-place l = (other : ℕ) → other < l.place → is_container l.bytes other ≡ false

@@ -1,0 +1,14 @@
+pub mod Causes
+pub mod CommandLine
+pub mod CutLaws
+pub mod Outcomes
+pub mod Inputs
+pub mod LimitOptions
+pub mod OptionLaws
+pub mod Options
+pub mod Outputs
+pub mod Pages
+pub mod PlainRunLaws
+pub mod Quoting
+pub mod Statuses
+pub mod Args

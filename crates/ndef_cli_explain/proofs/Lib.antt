@@ -1,0 +1,16 @@
+pub mod Asking
+pub mod Digits
+pub mod Dumps
+pub mod EachRun
+pub mod EndedRecords
+pub mod Ends
+pub mod Escapes
+pub mod JoinedPayloads
+pub mod MessageTexts
+pub mod RecoverySteps
+pub mod OutputParts
+pub mod Colored
+pub mod Places
+pub mod Referring
+pub mod Reports
+pub mod Worded

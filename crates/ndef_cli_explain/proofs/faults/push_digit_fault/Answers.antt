@@ -1,0 +1,17 @@
+use Rattle.std.proofs.Common.{◌∙◌, ◌∷◌, [], ap}
+use Rattle.std.specs.Prelude.{codes, option_map}
+use Rattle.serde_json.specs.Data.{string}
+use Rattle.ndef_cli_explain.specs.Messages.{file_pairs}
+use Rattle.ndef_cli_explain.specs.Outputs.{number_value, with_pair, with_pairs}
+use Rattle.ndef_cli_explain.proofs.RecoverySteps.{on_ok}
+use Rattle.ndef_cli_explain.proofs.OutputParts.{line_done}
+use Rattle.ndef_cli_explain.proofs.faults.push_digit_fault.Goals as goal
+
+pub returns : goal.returns
+returns c =
+    let files = file_pairs (option_map (λ name. name.now) c.args.file) in
+    let members = c.in_ok-push_file.ensures
+    ∙ ap (λ o. with_pairs o files) (c.in_ok-string_member.ensures ∙ ap (λ o. with_pair o (codes "fault", string (codes "bad digit"))) c.in_ok-number_member.ensures) in
+    on_ok (λ e.
+    line_done c.args.out.now _ _ _ _ [] ((codes "digit", number_value c.args.digit) ∷ (codes "fault", string (codes "bad digit")) ∷ files) c.in_ok-begin_line.ensures members c.in_ok-end.ensures e)
+    c.end-2.result c.end-2.ensures

@@ -1,0 +1,114 @@
+//! The whole output for an input.
+ghost use Rattle.std.specs.Prelude.{◌≡◌, ◌+◌, ◌<◌, ◌≤◌, ◌^◌, IfOk, IfSome, OnOk, length};
+ghost use Rattle.ndef_cli_explain.specs.Explained.{IsExplained, IsPastStop, IsStopWithin};
+ghost use Rattle.ndef_cli_explain.specs.Explaining.{Appends};
+ghost use Rattle.ndef_cli_explain.specs.Forms.{style_form};
+ghost use Rattle.ndef_cli_explain.specs.Recovery.{AreCounts, IsPastEnd, IsPastRefusal};
+
+use crate::explaining::{ExplainedMessages, Stop, push_messages, push_stop};
+use crate::fields::cut;
+use crate::output::Output;
+use crate::recovery::push_recovery;
+use crate::recovery_place::{Recovery, message_at, past};
+use crate::refusals::{push_goes_on, push_sound};
+use crate::refused_record::{RefusedRecord, records_in, refused_record};
+use crate::style::Style;
+use ndef_value::{Bytes, Limits, NoMemory, Refusal};
+use std::alloc::Global;
+
+/// The output for an input, and the point at which its messages stop.
+#[derive(Drop)]
+pub(crate) struct Explained {
+    pub text: Bytes,
+    pub stop: Stop,
+}
+
+/// Appends the output past a refused record, where its end is known.
+fn push_past_end(
+    alloc: Global,
+    out: &mut Output,
+    style: Style<'_>,
+    limits: Limits,
+    input: &[u8],
+    from: Recovery,
+    found: RefusedRecord,
+) -> Result<(), NoMemory>
+    requires counts { AreCounts from }
+    requires within { IfSome found.end (λ end. from.at + end ≤ length input.now) }
+    requires past { IfSome found.end (λ end. found.before + 1 < end) }
+    ensures { OnOk result (Appends (IsPastEnd (style_form style.entry) limits input.now from found found.end)
+        out.old.text out.new.text) }
+{
+    match found.end {
+        None => Ok(()),
+        Some(end) => {
+            push_goes_on(alloc, out, style, from, found.before, end)?;
+            let last = push_recovery(alloc, out, style, limits, input, past(from, found, end))?;
+            push_sound(alloc, out, style, last)?;
+            Ok(())
+        }
+    }
+}
+
+/// Appends the output past the first refusal, after the messages that were explained.
+fn push_past_refusal(
+    alloc: Global,
+    out: &mut Output,
+    style: Style<'_>,
+    limits: Limits,
+    input: &[u8],
+    progress: &ExplainedMessages<'_>,
+    refusal: Refusal,
+) -> Result<(), NoMemory>
+    requires number { progress.now.number ≤ progress.now.at + 1 }
+    requires within { progress.now.at + refusal.at ≤ length input.now }
+    ensures { OnOk result (Appends (IsPastRefusal (style_form style.entry) limits input.now
+        progress.now.number progress.now.at refusal) out.old.text out.new.text) }
+{
+    let (reported, rest) = cut(input, progress.at as usize);
+    let from = message_at(progress.number, progress.at, records_in(reported) as u64);
+    let found = refused_record(rest, refusal);
+    push_past_end(alloc, out, style, limits, input, from, found)
+}
+
+/// Appends the output past the place where the messages stop.
+fn push_past_stop(
+    alloc: Global,
+    out: &mut Output,
+    style: Style<'_>,
+    limits: Limits,
+    input: &[u8],
+    progress: &ExplainedMessages<'_>,
+) -> Result<(), NoMemory>
+    requires number { progress.now.number ≤ progress.now.at + 1 }
+    requires within { IsStopWithin progress.now.at (length input.now) progress.now.stop }
+    ensures { OnOk result (Appends (IsPastStop (style_form style.entry) limits input.now progress.now.number
+        progress.now.at progress.now.stop) out.old.text out.new.text) }
+{
+    match progress.stop {
+        Stop::End => Ok(()),
+        Stop::Refused(refusal) => {
+            push_past_refusal(alloc, out, style, limits, input, progress, refusal)
+        }
+    }
+}
+
+/// The whole output for an input: the fields of each message, where it is refused, and what is past a refused record
+/// whose end is known.
+pub(crate) fn explain(
+    alloc: Global,
+    style: Style<'_>,
+    limits: Limits,
+    input: &[u8],
+) -> Result<Explained, NoMemory>
+    ensures { IfOk result (λ made. IsExplained (style_form style.entry) limits input.now made.stop made.text) }
+{
+    let mut out = Output::new(alloc);
+    let progress = push_messages(alloc, &mut out, style, limits, input)?;
+    push_stop(alloc, &mut out, style, limits, &progress)?;
+    push_past_stop(alloc, &mut out, style, limits, input, &progress)?;
+    Ok(Explained {
+        text: out.text,
+        stop: progress.stop,
+    })
+}

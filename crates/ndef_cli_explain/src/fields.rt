@@ -1,0 +1,225 @@
+//! The lines and the objects of fields.
+ghost use Rattle.std.specs.Prelude.{◌≡◌, ◌++◌, ◌∷◌, [], ◌+◌, ◌<◌, ◌^◌, OnOk, drop, take};
+ghost use Rattle.ndef_cli_explain.specs.Advice.{said_remark};
+ghost use Rattle.ndef_cli_explain.specs.Fields.{PlacesFit, back_text, field_object, field_text, fields_array};
+ghost use Rattle.ndef_cli_explain.specs.Fields.{front_text, meaning_pairs, octets_of, remark_pairs};
+ghost use Rattle.ndef_cli_explain.specs.Fields.{with_fields};
+ghost use Rattle.ndef_cli_explain.specs.Forms.{in_utf8, style_form};
+ghost use Rattle.ndef_cli_explain.specs.Meanings.{meaning_of, reading_of};
+ghost use Rattle.ndef_cli_explain.specs.Outputs.{with_either, with_pairs, with_value};
+ghost use Rattle.ndef_cli_explain.specs.Wordings.{first_wording};
+
+use crate::advice::{push_remark_line, said_remark};
+use crate::cells::{COLUMNS, push_cells, push_later_cells, push_start};
+use crate::meaning::{push_meaning, whole_of};
+use crate::output::Output;
+use crate::style::{Style, in_utf8};
+use crate::wording::Wording;
+use ndef_diagnostics::Remark;
+use ndef_fields::{Field, Fields};
+use ndef_value::{Bytes, NoMemory};
+use std::alloc::Global;
+
+/// At most `count` octets at the front, and those after them.
+pub(crate) fn cut(octets: &[u8], count: usize) -> (&[u8], &[u8])
+    ensures front { result.0.now ≡ take count octets.now }
+    ensures back { result.1.now ≡ drop count octets.now }
+{
+    octets.split_at(count.min(octets.len()))
+}
+
+/// The octets of a field of these bytes.
+fn octets_of<'a>(bytes: &'a [u8], field: &Field) -> &'a [u8]
+    ensures { result.now ≡ octets_of bytes.now field.now }
+{
+    cut(cut(bytes, field.at).1, field.length).0
+}
+
+/// A field, and how it is put into words.
+#[derive(Clone, Copy)]
+struct PrintedField<'a> {
+    wording: Wording,
+    /// The number of bytes of the input before the bytes of the field's message.
+    at: u64,
+    field: Field,
+    /// The number of octets that it has if it is a number.
+    whole: usize,
+    octets: &'a [u8],
+}
+
+/// Appends the place of a field, its first eight octets and its name.
+fn push_front(line: &mut Bytes, report: &PrintedField<'_>) -> Result<(), NoMemory>
+    ensures { OnOk result (line.new ≡ line.old ++ front_text report.now.at report.now.field report.now.octets.now) }
+{
+    let field = report.field;
+    push_start(line, report.at, field.at as u64, field.depth)?;
+    push_cells(line, cut(report.octets, COLUMNS).0)?;
+    line.extend(b"  ")?;
+    line.extend(field.name.text())
+}
+
+/// Appends the meaning of the octets of a field.
+fn push_said(alloc: Global, line: &mut Bytes, report: &PrintedField<'_>) -> Result<(), NoMemory>
+    ensures { OnOk result (line.new ≡ line.old ++ meaning_of (reading_of report.now.field.name)
+        report.now.wording report.now.whole report.now.octets.now) }
+{
+    let (name, octets) = (report.field.name, report.octets);
+    push_meaning(alloc, line, name, report.wording, report.whole, octets)
+}
+
+/// Appends the meaning of the octets of a field, and those after the first eight.
+fn push_back(alloc: Global, line: &mut Bytes, report: &PrintedField<'_>) -> Result<(), NoMemory>
+    ensures { OnOk result (line.new ≡ line.old ++ back_text report.now.wording report.now.whole report.now.field
+        report.now.octets.now) }
+{
+    push_said(alloc, line, report)?;
+    push_later_cells(line, report.field.depth, cut(report.octets, COLUMNS).1)?;
+    line.extend(b"\n")
+}
+
+/// Returns the warning about a field, if warnings are printed.
+fn remark_of(report: &PrintedField<'_>) -> Option<Remark>
+    ensures { result ≡ said_remark report.now.wording.remarks report.now.field.name report.now.octets.now }
+{
+    said_remark(report.wording.remarks, report.field.name, report.octets)
+}
+
+/// Appends the lines of a field, and of what is strange in it.
+fn push_field_lines(
+    alloc: Global,
+    line: &mut Bytes,
+    report: &PrintedField<'_>,
+) -> Result<(), NoMemory>
+    ensures { OnOk result (line.new ≡ line.old ++ field_text report.now.wording report.now.at report.now.field
+        report.now.whole report.now.octets.now) }
+{
+    push_front(line, report)?;
+    push_back(alloc, line, report)?;
+    push_remark_line(line, remark_of(report))
+}
+
+/// Appends the member with the meaning, but for the blank before it, if there is a meaning.
+fn push_said_member(out: &mut Output, text: &[u8]) -> Result<(), NoMemory>
+    ensures { OnOk result (out.new ≡ with_pairs out.old (meaning_pairs text.now)) }
+{
+    match text {
+        [] => Ok(()),
+        [_, meaning @ ..] => out.string_member(b"meaning", meaning),
+    }
+}
+
+/// Appends the member with what the octets of a field say, if they say anything.
+fn push_meaning_member(
+    alloc: Global,
+    out: &mut Output,
+    report: &PrintedField<'_>,
+) -> Result<(), NoMemory>
+    ensures { OnOk result (out.new ≡ with_pairs out.old (meaning_pairs (meaning_of
+        (reading_of report.now.field.name) report.now.wording report.now.whole report.now.octets.now))) }
+{
+    let mut text = Bytes::new(alloc);
+    push_said(alloc, &mut text, report)?;
+    push_said_member(out, text.as_slice())
+}
+
+/// Appends the member with what is strange in a field, if anything is.
+fn push_remark_member(out: &mut Output, remark: Option<Remark>) -> Result<(), NoMemory>
+    ensures { OnOk result (out.new ≡ with_pairs out.old (remark_pairs remark)) }
+{
+    match remark {
+        None => Ok(()),
+        Some(remark) => out.string_member(b"remark", remark.sentence().as_slice()),
+    }
+}
+
+/// Appends the object of a field.
+#[tactic(auto, using(crate::proofs::OutputParts::object_parts))]
+fn push_field_object(
+    alloc: Global,
+    out: &mut Output,
+    report: &PrintedField<'_>,
+) -> Result<(), NoMemory>
+    requires { report.now.at + report.now.field.at < 2 ^ 64 }
+    ensures { OnOk result (out.new ≡ with_value out.old (field_object report.now.wording report.now.at
+        report.now.field report.now.whole report.now.octets.now)) }
+{
+    let field = report.field;
+    out.begin(b"{")?;
+    out.number_member(b"at", report.at + field.at as u64)?;
+    out.number_member(b"depth", u64::from(field.depth))?;
+    out.number_member(b"length", field.length as u64)?;
+    push_meaning_member(alloc, out, report)?;
+    out.string_member(b"name", field.name.text())?;
+    out.octets_member(alloc, b"octets", report.octets)?;
+    push_remark_member(out, remark_of(report))?;
+    out.end(b"}")
+}
+
+/// Appends the lines of a field, or its object.
+#[tactic(auto, unfolding(crate::specs::Outputs::with_text))]
+fn push_field(
+    alloc: Global,
+    out: &mut Output,
+    style: Style<'_>,
+    report: &PrintedField<'_>,
+) -> Result<(), NoMemory>
+    requires { report.now.at + report.now.field.at < 2 ^ 64 }
+    ensures { OnOk result (out.new ≡ with_either (style_form style.entry) out.old
+        (field_text report.now.wording report.now.at report.now.field report.now.whole report.now.octets.now)
+        (field_object report.now.wording report.now.at report.now.field report.now.whole report.now.octets.now
+        ∷ [])) }
+{
+    match style {
+        Style::Lines { .. } => push_field_lines(alloc, &mut out.text, report),
+        Style::Objects(_) => push_field_object(alloc, out, report),
+    }
+}
+
+/// Appends the lines of the fields of these bytes, or their objects, with `at` bytes of the input before them; what is
+/// strange in them is remarked or not.
+pub(crate) fn push_fields(
+    alloc: Global,
+    out: &mut Output,
+    style: Style<'_>,
+    remarks: bool,
+    at: u64,
+    bytes: &[u8],
+    fields: Fields<'_>,
+) -> Result<(), NoMemory>
+    requires { PlacesFit at fields }
+    ensures { OnOk result (out.new ≡ with_fields (style_form style.entry) out.old
+        (first_wording (in_utf8 (style_form style.entry)) remarks) at bytes.now fields.entry) }
+{
+    let mut wording = Wording::new(in_utf8(style), remarks);
+    for field in fields {
+        let octets = octets_of(bytes, &field);
+        let report = PrintedField {
+            wording,
+            at,
+            field,
+            whole: whole_of(bytes, &field),
+            octets,
+        };
+        push_field(alloc, out, style, &report)?;
+        wording = wording.after(field.name, octets);
+    }
+    Ok(())
+}
+
+/// Appends the array of the objects of the fields of these bytes.
+#[tactic(auto, using(crate::proofs::OutputParts::array_parts))]
+pub(crate) fn push_fields_array(
+    alloc: Global,
+    out: &mut Output,
+    remarks: bool,
+    at: u64,
+    bytes: &[u8],
+    fields: Fields<'_>,
+) -> Result<(), NoMemory>
+    requires { PlacesFit at fields }
+    ensures { OnOk result (out.new ≡ with_value out.old (fields_array remarks at bytes.now fields.entry)) }
+{
+    out.begin(b"[")?;
+    push_fields(alloc, out, Style::Objects(None), remarks, at, bytes, fields)?;
+    out.end(b"]")
+}

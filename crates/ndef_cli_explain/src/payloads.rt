@@ -1,0 +1,174 @@
+//! The lines and the objects of payloads in several chunks, joined.
+ghost use Rattle.std.specs.Prelude.{◌≡◌, ◌++◌, ◌∷◌, [], ◌+◌, ◌<◌, ◌≤◌, ◌^◌, OnOk, length};
+ghost use Rattle.ndef_fields.specs.Reports.{ArePayloadFields};
+ghost use Rattle.ndef_format.specs.Messages.{run_record};
+ghost use Rattle.ndef_cli_explain.specs.Fields.{PlacesFit};
+ghost use Rattle.ndef_cli_explain.specs.Forms.{style_form};
+ghost use Rattle.ndef_cli_explain.specs.OfEach.{Puts};
+ghost use Rattle.ndef_cli_explain.specs.Outputs.{with_text, with_value};
+ghost use Rattle.ndef_cli_explain.specs.Payloads.{AddsJoined, AreJoinedBy, ArePayloads, payload_head, payload_object};
+ghost use Rattle.ndef_cli_explain.specs.Payloads.{payload_text, with_payloads, with_payloads_member};
+
+use crate::fields::{push_fields, push_fields_array};
+use crate::output::Output;
+use crate::style::Style;
+use ndef_cli::push_number;
+use ndef_fields::{Fields, payload_fields, payload_fields_are_exact};
+use ndef_lang::Kind;
+use ndef_message::{Item, Items};
+use ndef_value::{Bytes, NoMemory};
+use std::alloc::Global;
+
+/// The fields of a payload of this kind.
+fn fields_of(kind: Kind, payload: &[u8]) -> Fields<'_>
+    ensures reported { ArePayloadFields kind payload.now result }
+    ensures fit { PlacesFit 0 result }
+{
+    // For the proof alone.
+    payload_fields_are_exact();
+    payload_fields(kind, payload)
+}
+
+/// Appends the line of a joined payload: the number of its record, and its number of bytes.
+fn push_payload_head(line: &mut Bytes, number: u64, bytes: u64) -> Result<(), NoMemory>
+    ensures { OnOk result (line.new ≡ line.old ++ payload_head number bytes) }
+{
+    line.extend(b"payload of record ")?;
+    push_number(line, number)?;
+    line.extend(b": bytes ")?;
+    push_number(line, bytes)?;
+    line.extend(b"\n")
+}
+
+/// Appends the lines of a payload, of the record of this number.
+#[tactic(auto, unfolding(crate::specs::Outputs::with_text))]
+fn push_payload_lines(
+    alloc: Global,
+    out: &mut Output,
+    utf8: bool,
+    number: u64,
+    payload: &[u8],
+    fields: Fields<'_>,
+) -> Result<(), NoMemory>
+    requires { PlacesFit 0 fields }
+    ensures { OnOk result (out.new ≡ with_text out.old (payload_text utf8
+        (record { number = number; octets = payload.now; fields = fields.entry }))) }
+{
+    push_payload_head(&mut out.text, number, payload.len() as u64)?;
+    push_fields(alloc, out, Style::Lines { utf8 }, true, 0, payload, fields)
+}
+
+/// Appends the object of a payload: its fields, its number of bytes, and the number of its record.
+#[tactic(auto, using(crate::proofs::OutputParts::object_parts, crate::proofs::OutputParts::pair_parts))]
+fn push_payload_object(
+    alloc: Global,
+    out: &mut Output,
+    number: u64,
+    payload: &[u8],
+    fields: Fields<'_>,
+) -> Result<(), NoMemory>
+    requires { PlacesFit 0 fields }
+    ensures { OnOk result (out.new ≡ with_value out.old (payload_object
+        (record { number = number; octets = payload.now; fields = fields.entry }))) }
+{
+    out.begin(b"{")?;
+    out.name(b"fields")?;
+    push_fields_array(alloc, out, true, 0, payload, fields)?;
+    out.number_member(b"length", payload.len() as u64)?;
+    out.number_member(b"record", number)?;
+    out.end(b"}")
+}
+
+/// Appends the lines of a payload, or its object.
+fn push_reported(
+    alloc: Global,
+    out: &mut Output,
+    style: Style<'_>,
+    number: u64,
+    payload: &[u8],
+    fields: Fields<'_>,
+) -> Result<(), NoMemory>
+    requires { PlacesFit 0 fields }
+    ensures { OnOk result (out.new ≡ with_payloads (style_form style.entry) out.old
+        (record { number = number; octets = payload.now; fields = fields.entry } ∷ [])) }
+{
+    match style {
+        Style::Lines { utf8 } => push_payload_lines(alloc, out, utf8, number, payload, fields),
+        Style::Objects(_) => push_payload_object(alloc, out, number, payload, fields),
+    }
+}
+
+/// Appends the lines of the payload of a record, its chunks joined, or its object.
+fn push_joined(
+    alloc: Global,
+    out: &mut Output,
+    style: Style<'_>,
+    number: u64,
+    item: &Item<'_>,
+) -> Result<(), NoMemory>
+    ensures { OnOk result (AddsJoined (style_form style.entry) number (run_record item.now) out.old out.new) }
+{
+    let payload = item.joined(alloc)?;
+    let octets = payload.as_slice();
+    let fields = fields_of(Kind::of(item.tnf(), item.kind()), octets);
+    push_reported(alloc, out, style, number, octets, fields)?;
+    Ok(())
+}
+
+/// Appends the lines of the payload of a record, or its object, if it comes in several chunks.
+fn push_payload(
+    alloc: Global,
+    out: &mut Output,
+    style: Style<'_>,
+    number: u64,
+    item: &Item<'_>,
+) -> Result<(), NoMemory>
+    ensures { OnOk result (Puts (with_payloads (style_form style.entry))
+        (AreJoinedBy number (run_record item.now) item.now.later) out.old out.new) }
+{
+    if item.whole().is_some() {
+        return Ok(());
+    }
+    push_joined(alloc, out, style, number, item)?;
+    Ok(())
+}
+
+/// Appends the lines of the payloads that come in several chunks, or their objects, of records of which the first has
+/// this number.
+pub(crate) fn push_payloads(
+    alloc: Global,
+    out: &mut Output,
+    style: Style<'_>,
+    first: u64,
+    items: Items<'_>,
+) -> Result<(), NoMemory>
+    requires few { length items ≤ 65535 }
+    requires numbers { first + 65535 < 2 ^ 64 }
+    ensures { OnOk result (Puts (with_payloads (style_form style.entry)) (ArePayloads first items.entry)
+        out.old out.new) }
+{
+    let mut number = first;
+    for item in items {
+        push_payload(alloc, out, style, number, &item)?;
+        number += 1;
+    }
+    Ok(())
+}
+
+/// Appends the member with the array of the objects of these payloads.
+pub(crate) fn push_payloads_member(
+    alloc: Global,
+    out: &mut Output,
+    first: u64,
+    items: Items<'_>,
+) -> Result<(), NoMemory>
+    requires few { length items ≤ 65535 }
+    requires numbers { first + 65535 < 2 ^ 64 }
+    ensures { OnOk result (Puts with_payloads_member (ArePayloads first items.entry) out.old out.new) }
+{
+    out.name(b"payloads")?;
+    out.begin(b"[")?;
+    push_payloads(alloc, out, Style::Objects(None), first, items)?;
+    out.end(b"]")?;
+    Ok(())
+}

@@ -1,0 +1,362 @@
+//! The output for a refusal, and for a record that is refused.
+ghost use Rattle.std.specs.Prelude.{◌≡◌, ◌++◌, ◌+◌, ◌<◌, ◌^◌, OnOk, IfSome, length, option_map};
+ghost use Rattle.ndef_diagnostics.specs.Wordings.{expected_text};
+ghost use Rattle.ndef_fields.specs.Reports.{AreFieldsBefore, IsMessageFront};
+ghost use Rattle.ndef_cli_explain.specs.Fields.{PlacesFit};
+ghost use Rattle.ndef_cli_explain.specs.Forms.{style_form};
+ghost use Rattle.ndef_cli_explain.specs.Outputs.{json_line, with_pairs, with_text, with_value};
+ghost use Rattle.ndef_cli_explain.specs.Refusals.{byte_line, byte_text, follows_pairs, goes_on_line, goes_on_object};
+ghost use Rattle.ndef_cli_explain.specs.Refusals.{goes_on_text, goes_on_where, hint_pairs, octet_pairs, place_pairs};
+ghost use Rattle.ndef_cli_explain.specs.Refusals.{reason_lines, refusal_object, refused_lines, refused_object};
+ghost use Rattle.ndef_cli_explain.specs.Refusals.{refused_text, sound_line, sound_object, sound_text};
+
+use crate::advice::push_hint_line;
+use crate::cells::{push_cells, push_place, push_start};
+use crate::fields::push_fields;
+use crate::messages::{begin_object, push_file};
+use crate::output::Output;
+use crate::recovery_place::Recovery;
+use crate::said_refusal::{RefusedByte, SaidRefusal};
+use crate::style::Style;
+use ndef_cli::push_number;
+use ndef_diagnostics::{Expected, Hint};
+use ndef_fields::{ByteField, Fields, fields_before, fields_before_are_exact};
+use ndef_value::{Bytes, NoMemory, Reason, Refusal};
+use std::alloc::Global;
+
+/// The fields of a front of a message, with `at` bytes of the input before it.
+pub(crate) fn fields_of_front(at: u64, front: &[u8]) -> Fields<'_>
+    requires front { IsMessageFront front.now }
+    requires fits { at + length front.now < 2 ^ 64 }
+    ensures reported { AreFieldsBefore front.now result }
+    ensures fit { PlacesFit at result }
+{
+    // For the proof alone.
+    let _place = at;
+    fields_before_are_exact();
+    fields_before(front)
+}
+
+/// Appends the line of a refused byte: its place, the byte itself, and its field.
+fn push_byte_line(
+    line: &mut Bytes,
+    at: u64,
+    offset: u64,
+    octet: u8,
+    byte: ByteField,
+) -> Result<(), NoMemory>
+    ensures { OnOk result (line.new ≡ line.old ++ byte_line (at + offset) octet byte) }
+{
+    push_start(line, at, offset, byte.depth)?;
+    push_cells(line, &[octet])?;
+    line.extend(b"^ ")?;
+    line.extend(byte.name.text())?;
+    line.extend(b"\n")
+}
+
+/// Appends the line of a refused byte, if there is one.
+fn push_byte(
+    line: &mut Bytes,
+    at: u64,
+    refusal: Refusal,
+    byte: Option<RefusedByte>,
+) -> Result<(), NoMemory>
+    ensures { OnOk result (line.new ≡ line.old ++ byte_text at refusal byte) }
+{
+    match byte {
+        None => Ok(()),
+        Some(byte) => push_byte_line(line, at, refusal.at, byte.octet, byte.field),
+    }
+}
+
+/// Appends the sentence for the expectation.
+fn push_sentence(line: &mut Bytes, reason: Reason, expected: Expected) -> Result<(), NoMemory>
+    ensures { OnOk result (line.new ≡ line.old ++ expected_text reason expected) }
+{
+    let sentence = expected.sentence(reason);
+    line.extend(sentence.as_slice())
+}
+
+/// Appends the line of a refusal after `at` bytes, and the sentence for the expectation.
+fn push_reason(
+    line: &mut Bytes,
+    at: u64,
+    refusal: Refusal,
+    expected: Expected,
+) -> Result<(), NoMemory>
+    requires { at + refusal.at < 2 ^ 64 }
+    ensures { OnOk result (line.new
+        ≡ line.old ++ reason_lines at refusal (expected_text refusal.reason expected)) }
+{
+    line.extend(b"refused at ")?;
+    push_number(line, at + refusal.at)?;
+    line.extend(b" (0x")?;
+    push_place(line, at, refusal.at)?;
+    line.extend(b"): ")?;
+    push_number(line, u64::from(refusal.reason.number()))?;
+    line.extend(b" ")?;
+    line.extend(refusal.reason.name())?;
+    line.extend(b"\n")?;
+    push_sentence(line, refusal.reason, expected)?;
+    line.extend(b"\n")
+}
+
+/// Appends the lines of a refusal after `at` bytes: those of the fields of this front, and the description.
+#[tactic(auto, unfolding(crate::specs::Outputs::with_text))]
+fn push_refused_lines(
+    alloc: Global,
+    out: &mut Output,
+    utf8: bool,
+    at: u64,
+    front: &[u8],
+    before: Fields<'_>,
+    said: SaidRefusal,
+) -> Result<(), NoMemory>
+    requires place { at + said.refusal.at < 2 ^ 64 }
+    requires fit { PlacesFit at before }
+    ensures { OnOk result (out.new.text ≡ out.old.text ++ refused_lines utf8 at front.now before.entry said) }
+{
+    push_fields(alloc, out, Style::Lines { utf8 }, false, at, front, before)?;
+    push_byte(&mut out.text, at, said.refusal, said.byte)?;
+    push_reason(&mut out.text, at, said.refusal, said.expected)?;
+    push_hint_line(&mut out.text, said.hint)
+}
+
+/// Appends the depth and the field of a refused byte, if there is one.
+fn push_place_members(out: &mut Output, byte: Option<RefusedByte>) -> Result<(), NoMemory>
+    ensures { OnOk result (out.new ≡ with_pairs out.old (place_pairs byte)) }
+{
+    match byte {
+        None => Ok(()),
+        Some(byte) => {
+            out.number_member(b"depth", u64::from(byte.field.depth))?;
+            out.string_member(b"field", byte.field.name.text())
+        }
+    }
+}
+
+/// Appends a refused byte, if there is one.
+fn push_octet_member(
+    alloc: Global,
+    out: &mut Output,
+    byte: Option<RefusedByte>,
+) -> Result<(), NoMemory>
+    ensures { OnOk result (out.new ≡ with_pairs out.old (octet_pairs byte)) }
+{
+    match byte {
+        None => Ok(()),
+        Some(byte) => out.octets_member(alloc, b"octet", &[byte.octet]),
+    }
+}
+
+/// Appends the object with the description of a refusal after `at` bytes.
+#[tactic(auto, using(crate::proofs::OutputParts::object_parts))]
+fn push_said(alloc: Global, out: &mut Output, at: u64, said: SaidRefusal) -> Result<(), NoMemory>
+    requires { at + said.refusal.at < 2 ^ 64 }
+    ensures { OnOk result (out.new ≡ with_value out.old (refusal_object at said)) }
+{
+    let reason = said.refusal.reason;
+    out.begin(b"{")?;
+    out.number_member(b"at", at + said.refusal.at)?;
+    push_place_members(out, said.byte)?;
+    out.string_member(b"name", reason.name())?;
+    push_octet_member(alloc, out, said.byte)?;
+    out.number_member(b"reason", u64::from(reason.number()))?;
+    out.string_member(b"sentence", said.expected.sentence(reason).as_slice())?;
+    out.end(b"}")
+}
+
+/// Appends the number of the record after which this is, where there is one.
+fn push_follows(out: &mut Output, from: Recovery) -> Result<(), NoMemory>
+    ensures { OnOk result (out.new ≡ with_pairs out.old (follows_pairs from)) }
+{
+    if from.records == 0 {
+        return Ok(());
+    }
+    out.number_member(b"follows", from.records)
+}
+
+/// Appends the hint, if there is one.
+#[tactic(auto, using(crate::proofs::OutputParts::array_parts, crate::proofs::OutputParts::pair_parts))]
+fn push_hints(out: &mut Output, hint: Option<Hint>) -> Result<(), NoMemory>
+    ensures { OnOk result (out.new ≡ with_pairs out.old (hint_pairs hint)) }
+{
+    match hint {
+        None => Ok(()),
+        Some(hint) => {
+            out.name(b"hints")?;
+            out.begin(b"[")?;
+            out.string(hint.sentence().as_slice())?;
+            out.end(b"]")
+        }
+    }
+}
+
+/// Appends the object of a refusal in a line: the fields of this front, and the description.
+#[tactic(auto, using(crate::proofs::OutputParts::line_parts, crate::proofs::OutputParts::pair_parts))]
+fn push_refused_object(
+    alloc: Global,
+    out: &mut Output,
+    file: Option<&str>,
+    from: Recovery,
+    front: &[u8],
+    before: Fields<'_>,
+    said: SaidRefusal,
+) -> Result<(), NoMemory>
+    requires place { from.at + said.refusal.at < 2 ^ 64 }
+    requires fit { PlacesFit from.at before }
+    ensures { OnOk result (out.new.text ≡ out.old.text ++ json_line (refused_object
+        (option_map (λ name. name.now) file.entry) from front.now before.entry said)) }
+{
+    begin_object(alloc, out, false, file, from.at, front, before)?;
+    push_follows(out, from)?;
+    push_hints(out, said.hint)?;
+    out.number_member(b"message", from.message)?;
+    out.name(b"refused")?;
+    push_said(alloc, out, from.at, said)?;
+    out.end(b"}")?;
+    out.end(b"\n")
+}
+
+/// Appends the output for a refusal: the fields of this front, and the description.
+pub(crate) fn push_refused(
+    alloc: Global,
+    out: &mut Output,
+    style: Style<'_>,
+    from: Recovery,
+    front: &[u8],
+    before: Fields<'_>,
+    said: SaidRefusal,
+) -> Result<(), NoMemory>
+    requires place { from.at + said.refusal.at < 2 ^ 64 }
+    requires fit { PlacesFit from.at before }
+    ensures { OnOk result (out.new.text
+        ≡ out.old.text ++ refused_text (style_form style.entry) from front.now before.entry said) }
+{
+    match style {
+        Style::Lines { utf8 } => {
+            push_refused_lines(alloc, out, utf8, from.at, front, before, said)
+        }
+        Style::Objects(file) => push_refused_object(alloc, out, file, from, front, before, said),
+    }
+}
+
+/// Appends the line of a refused record past which the input is read on.
+fn push_goes_on_line(line: &mut Bytes, number: u64, place: u64) -> Result<(), NoMemory>
+    ensures { OnOk result (line.new ≡ line.old ++ goes_on_line number place) }
+{
+    line.extend(b"record ")?;
+    push_number(line, number)?;
+    line.extend(b" goes on to byte ")?;
+    push_number(line, place)?;
+    line.extend(b"\n")
+}
+
+/// Appends the object of a refused record past which the input is read on, in a line.
+#[tactic(auto, using(crate::proofs::OutputParts::line_parts))]
+fn push_goes_on_object(
+    alloc: Global,
+    out: &mut Output,
+    file: Option<&str>,
+    end: u64,
+    message: u64,
+    number: u64,
+) -> Result<(), NoMemory>
+    ensures { OnOk result (out.new.text ≡ out.old.text ++ json_line (goes_on_object
+        (option_map (λ name. name.now) file.entry) end message number)) }
+{
+    out.begin_line()?;
+    out.number_member(b"end", end)?;
+    push_file(alloc, out, file)?;
+    out.number_member(b"message", message)?;
+    out.number_member(b"record", number)?;
+    out.end(b"}")?;
+    out.end(b"\n")
+}
+
+/// Appends that the input is read on past a refused record, which has this number of records before it.
+pub(crate) fn push_goes_on(
+    alloc: Global,
+    out: &mut Output,
+    style: Style<'_>,
+    from: Recovery,
+    before: usize,
+    end: usize,
+) -> Result<(), NoMemory>
+    requires number { from.records + before + 1 < 2 ^ 64 }
+    requires place { from.at + end < 2 ^ 64 }
+    ensures { OnOk result (out.new.text ≡ out.old.text ++ goes_on_text (style_form style.entry) from before end) }
+{
+    let (number, place) = (from.records + before as u64 + 1, from.at + end as u64);
+    match style {
+        Style::Lines { .. } => push_goes_on_line(&mut out.text, number, place),
+        Style::Objects(file) => push_goes_on_object(alloc, out, file, place, from.message, number),
+    }
+}
+
+/// The same, where the end of the record is known.
+pub(crate) fn push_goes_on_where(
+    alloc: Global,
+    out: &mut Output,
+    style: Style<'_>,
+    from: Recovery,
+    before: usize,
+    end: Option<usize>,
+) -> Result<(), NoMemory>
+    requires number { from.records + before + 1 < 2 ^ 64 }
+    requires place { IfSome end (λ end. from.at + end < 2 ^ 64) }
+    ensures { OnOk result (out.new.text ≡ out.old.text ++ goes_on_where (style_form style.entry) from before end) }
+{
+    match end {
+        None => Ok(()),
+        Some(end) => push_goes_on(alloc, out, style, from, before, end),
+    }
+}
+
+/// Appends the last line: the number of sound records, and that of all.
+fn push_sound_line(line: &mut Bytes, sound: u64, all: u64) -> Result<(), NoMemory>
+    ensures { OnOk result (line.new ≡ line.old ++ sound_line sound all) }
+{
+    line.extend(b"records sound: ")?;
+    push_number(line, sound)?;
+    line.extend(b" of ")?;
+    push_number(line, all)?;
+    line.extend(b"\n")
+}
+
+/// Appends the last object, in a line: the number of all records, and that of the sound ones.
+#[tactic(auto, using(crate::proofs::OutputParts::line_parts))]
+fn push_sound_object(
+    alloc: Global,
+    out: &mut Output,
+    file: Option<&str>,
+    all: u64,
+    sound: u64,
+) -> Result<(), NoMemory>
+    ensures { OnOk result (out.new.text ≡ out.old.text ++ json_line (sound_object
+        (option_map (λ name. name.now) file.entry) all sound)) }
+{
+    out.begin_line()?;
+    out.number_member(b"counted", all)?;
+    push_file(alloc, out, file)?;
+    out.number_member(b"sound", sound)?;
+    out.end(b"}")?;
+    out.end(b"\n")
+}
+
+/// Appends the end of the output: the number of sound records.
+pub(crate) fn push_sound(
+    alloc: Global,
+    out: &mut Output,
+    style: Style<'_>,
+    last: Recovery,
+) -> Result<(), NoMemory>
+    requires { last.sound + last.refused < 2 ^ 64 }
+    ensures { OnOk result (out.new.text ≡ out.old.text ++ sound_text (style_form style.entry) last) }
+{
+    let all = last.sound + last.refused;
+    match style {
+        Style::Lines { .. } => push_sound_line(&mut out.text, last.sound, all),
+        Style::Objects(file) => push_sound_object(alloc, out, file, all, last.sound),
+    }
+}

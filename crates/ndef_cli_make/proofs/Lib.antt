@@ -1,0 +1,16 @@
+pub mod Appended
+pub mod BadPayloads
+pub mod Digits
+pub mod EditedMessages
+pub mod Edits
+pub mod Found
+pub mod Linked
+pub mod Lists
+pub mod Made
+pub mod MadeIn
+pub mod Parsed
+pub mod Parsing
+pub mod ReadBack
+pub mod Short
+pub mod Values
+pub mod Words

@@ -1,0 +1,8 @@
+use Rattle.std.proofs.Common.{◌∙◌, ap, Some, true}
+use Rattle.clap.specs.Words.{Rule, rule_of}
+use Rattle.ndef_cli_make.proofs.command.asked_option.Goals as goal
+
+pub returns-clause-rule : goal.returns-clause-rule
+returns-clause-rule c =
+    let long = ap rule_of c.long.ensures ∙ ap (λ (r : Rule). record r { long = Some c.args.name.now }) c.new.ensures.rule in
+    ap rule_of c.required.ensures ∙ ap (λ (r : Rule). record r { required = true }) long

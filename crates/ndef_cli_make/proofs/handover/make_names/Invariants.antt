@@ -1,0 +1,9 @@
+use Rattle.std.proofs.Common.{◌≡◌, ◌++◌, length}
+use Rattle.ndef_cli_make.specs.CarrierWords.{references_left}
+use Rattle.ndef_cli_make.proofs.handover.make_names.Given as goal
+
+abbrev pub invariant-loop-reference : goal.invariant-loop-reference
+invariant-loop-reference l = l.names.items ++ references_left l.rest ≡ references_left l.references
+
+abbrev pub decreases-loop-reference : goal.decreases-loop-reference
+decreases-loop-reference l = length (references_left l.rest)

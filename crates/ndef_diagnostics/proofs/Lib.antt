@@ -1,0 +1,10 @@
+pub mod Counts
+pub mod LengthMismatches
+pub mod Nests
+pub mod PieceFronts
+pub mod RecordTruths
+pub mod References
+pub mod Sames
+pub mod TagMemory
+pub mod Tests
+pub mod Truths

@@ -1,0 +1,147 @@
+-- Hints for bytes that are refused.
+use Rattle.std.specs.Prelude.{◌≡◌, ℕ, ◌+◌, ◌<◌, ◌≤◌, ◌==◌, ◌||◌, ◌++◌, ◌⊎◌, Bool, true, List, Some, None, codes, decimal, drop, if◌then◌else◌, slice_index, take}
+use Rattle.ndef_format.specs.Accepted.{IsAccepted}
+use Rattle.ndef_format.specs.Limits.{LimitValues}
+use Rattle.ndef_format.specs.Payloads.{IsTypedPayload}
+use Rattle.ndef_format.specs.declared.profile.Profile.TheVariants.{Standard}
+use Rattle.ndef_format.specs.declared.reason.Reason.TheVariants as reasons
+use Rattle.ndef_format.specs.declared.refusal.Refusal.{Refusal}
+use Rattle.ndef_diagnostics.specs.DumpTexts.{text_of}
+use Rattle.ndef_diagnostics.specs.TagMemory.{Finds}
+use Rattle.ndef_diagnostics.specs.declared.dump_text.DumpText.{DumpText}
+use Rattle.ndef_diagnostics.specs.declared.dump_text.DumpText.TheVariants as texts
+use Rattle.ndef_diagnostics.specs.declared.tag_memory.Found.{Found}
+use Rattle.ndef_diagnostics.specs.declared.tag_memory.Wrapping.{Wrapping}
+use Rattle.ndef_diagnostics.specs.declared.tag_memory.Wrapping.TheVariants as wrappings
+use Rattle.ndef_diagnostics.specs.declared.hint.Hint.{Hint}
+use Rattle.ndef_diagnostics.specs.declared.hint.Hint.TheVariants as hints
+
+-- NDEF 1.0, messages: the bytes begin with a message within the limits
+abbrev pub BeginsWithMessage : LimitValues → List ℕ → Type 0
+BeginsWithMessage limits bytes = (count : ℕ) × IsAccepted IsTypedPayload limits (take count bytes)
+
+-- NFC Forum, Type 2 Tag, TLV blocks: NULL, lock control or NDEF message; or the high octet of a length
+abbrev pub is_around : ℕ → Bool
+is_around octet = octet == 0 || octet == 1 || octet == 3
+
+-- NDEF 1.0, messages: a message begins at this place, 1 to 16, and at none before it
+pub record IsMessageNear (limits : LimitValues) (bytes : List ℕ) (place : ℕ) : Type 0 where
+  pub some : 1 ≤ place
+  pub near : place ≤ 16
+  pub begins : BeginsWithMessage limits (drop place bytes)
+  pub first : (other : ℕ) → 1 ≤ other → other < place → ¬ BeginsWithMessage limits (drop other bytes)
+
+-- RTD URI 1.0, URI identifier codes: the first letter of `http` is in place of the code
+pub record IsCodeLeftOut (bytes : List ℕ) (refusal : Refusal) : Type 0 where
+  pub reason : refusal.reason ≡ reasons.UriCode
+  pub octet : slice_index bytes refusal.at ≡ 0x68
+
+-- NDEF 1.0, TNF, and RTD URI 1.0, URI identifier codes: the reasons that only a strict reader gives
+abbrev pub IsStrictAlone : Refusal → Type 0
+IsStrictAlone refusal = (refusal.reason ≡ reasons.ReservedTnf) ⊎ (refusal.reason ≡ reasons.UriCode)
+
+-- the same limits, for a reader of the standard profile
+abbrev pub standard : LimitValues → LimitValues
+standard limits = record limits { profile = Standard }
+
+-- NFC Forum, Type 2 Tag, TLV blocks: a first byte that is refused may be one of what surrounds a message on a tag
+pub record IsSurrounded (bytes : List ℕ) (refusal : Refusal) : Type 0 where
+  pub at_first : refusal.at ≡ 0
+  pub around : is_around (slice_index bytes 0) ≡ true
+
+-- NFC Forum, Type 2 to Type 5 Tag: the first byte is refused, and the bytes are a text that spells others, or they have
+-- bytes for a message as a tag has them
+abbrev pub IsOfDump : (bytes : List ℕ) → Refusal → Hint → Type 0
+IsOfDump bytes refusal (hints.Text text) = (refusal.at ≡ 0) × (text_of bytes ≡ Some text)
+IsOfDump bytes refusal (hints.InTag found) =
+    (refusal.at ≡ 0) × (text_of bytes ≡ None) × Finds bytes (Some found)
+IsOfDump bytes refusal hint = ⊥
+
+-- they are neither
+abbrev pub IsNoDump : (bytes : List ℕ) → Refusal → Type 0
+IsNoDump bytes refusal = (hint : Hint) → ¬ IsOfDump bytes refusal hint
+
+-- NFC Forum, Type 2 Tag, terminator TLV: it is in place of a message
+pub record IsAfterBlocks (bytes : List ℕ) (refusal : Refusal) : Type 0 where
+  pub at_first : refusal.at ≡ 0
+  pub terminator : slice_index bytes 0 ≡ 0xFE
+
+-- a hint that is not of a dump applies where these bytes are refused so
+abbrev pub AppliesElse : LimitValues → (bytes : List ℕ) → Refusal → Hint → Type 0
+AppliesElse limits bytes refusal (hints.MessageAt place) =
+    IsSurrounded bytes refusal × IsMessageNear limits bytes place
+AppliesElse limits bytes refusal hints.AfterBlocks = IsAfterBlocks bytes refusal
+AppliesElse limits bytes refusal hints.CodeLeftOut = IsCodeLeftOut bytes refusal
+AppliesElse limits bytes refusal hints.StandardProfile =
+    IsStrictAlone refusal × ¬ IsCodeLeftOut bytes refusal × BeginsWithMessage (standard limits) bytes
+AppliesElse limits bytes refusal hint = ⊥
+
+-- a hint applies where these bytes are refused so
+abbrev pub Applies : LimitValues → (bytes : List ℕ) → Refusal → Hint → Type 0
+Applies limits bytes refusal hint =
+    IsOfDump bytes refusal hint ⊎ (IsNoDump bytes refusal × AppliesElse limits bytes refusal hint)
+
+-- ---- sentences, and what they name
+
+-- the bytes that surround a message on a tag
+abbrev pub wrapping_text : Wrapping → List ℕ
+wrapping_text wrappings.Block = codes ", in an NDEF TLV of a tag"
+wrapping_text wrappings.Attributes = codes ", after the attribute block of a Type 3 Tag"
+wrapping_text wrappings.File = codes ", after its length, as in a file of a Type 4 Tag"
+
+-- the length and the place of a message on a tag, and the beginning of a command
+abbrev pub placed_text : (before : List ℕ) → Found → List ℕ
+placed_text before found =
+    before ++ decimal found.length ++ codes " may begin at byte " ++ decimal found.at
+    ++ wrapping_text found.wrapping ++ codes ": `tail -c +"
+
+-- the same, and the rest of the command, which gives the bytes of the message
+abbrev pub cut_text : (before : List ℕ) → (place length : ℕ) → List ℕ
+cut_text before place length =
+    before ++ decimal (place + 1) ++ codes " | head -c " ++ decimal length ++ codes "`."
+
+-- the sentence for what a tag has for a message
+abbrev pub tag_text : Found → List ℕ
+tag_text found =
+    if found.length == 0
+    then codes "This tag is empty: it has no bytes for a message."
+    else cut_text (placed_text (codes "A message of length ") found) found.at found.length
+
+-- the sentence for a text that spells bytes
+abbrev pub dump_text : DumpText → List ℕ
+dump_text texts.Digits = codes "These are hexadecimal digits, not the bytes that they spell; `--hex` reads them."
+dump_text texts.Xxd = codes "This is a dump by xxd, not the bytes that it spells; `--hex` reads it."
+dump_text texts.Hexdump = codes "This is a dump by hexdump, not the bytes that it spells; `--hex` reads it."
+dump_text texts.Words =
+    codes "This is a dump by od or hexdump, not the bytes; `--hex` reads those of `hexdump -C` and xxd."
+dump_text texts.Flipper =
+    codes "This is a file of a Flipper; `--hex` reads what `sed -n 's/^Page [0-9]*: //p'` leaves of it."
+dump_text texts.Proxmark =
+    codes "This is what a Proxmark prints, not the bytes; `--hex` reads the digits of its blocks."
+dump_text texts.Base64 = codes "This may be base64, not the bytes that it spells; `base64 -d` gives them."
+
+-- the sentence for a message at a place
+abbrev pub near_text : (place : ℕ) → List ℕ
+near_text place =
+    codes "The bytes may begin with what surrounds a message on a tag; a message begins at byte " ++ decimal place
+    ++ codes "."
+
+-- the sentence for a hint
+abbrev pub hint_text : Hint → List ℕ
+hint_text (hints.InTag found) = tag_text found
+hint_text (hints.Text text) = dump_text text
+hint_text (hints.MessageAt place) = near_text place
+hint_text hints.AfterBlocks = codes "FE (hexadecimal) ends the TLV blocks of a tag; what comes after it is no message."
+hint_text hints.CodeLeftOut = codes "68 (hexadecimal) is the letter h: was the identifier code left out?"
+hint_text hints.StandardProfile = codes "The standard profile reads this (`--profile standard`, in C NDEF_STANDARD)."
+
+-- the place where a message may begin; 0 where the hint names none
+abbrev pub hint_place : Hint → ℕ
+hint_place (hints.InTag found) = found.at
+hint_place (hints.MessageAt place) = place
+hint_place hint = 0
+
+-- the number of bytes that a tag has for it; 0 where the hint names none
+abbrev pub hint_length : Hint → ℕ
+hint_length (hints.InTag found) = found.length
+hint_length hint = 0

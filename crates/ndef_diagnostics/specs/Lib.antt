@@ -1,0 +1,12 @@
+pub mod Begun
+pub mod DumpTexts
+pub mod Hints
+pub mod LengthMismatches
+pub mod PosterHeads
+pub mod RecordRemarks
+pub mod Remarks
+pub mod TagMemory
+pub mod TextRemarks
+pub mod Truths
+pub mod Expectations
+pub mod Wordings

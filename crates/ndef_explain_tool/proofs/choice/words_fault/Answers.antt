@@ -1,8 +1,0 @@
-use Rattle.std.proofs.Common.{map, string_bytes}
-use Rattle.ndef_explain_tool.specs.CommandLine.{explain_app}
-use Rattle.ndef_explain_tool.proofs.Asking.{explain_is_free, faulty_by}
-use Rattle.ndef_explain_tool.proofs.choice.words_fault.Goals as goal
-
-pub returns : goal.returns
-returns c =
-    faulty_by _ explain_app (map string_bytes c.args.words.now) c.in-Err.error c.in-Ok.ensures.0 explain_is_free c.in-Err.ensures.kinds

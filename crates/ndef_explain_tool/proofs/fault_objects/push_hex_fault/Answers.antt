@@ -1,4 +1,0 @@
-use Rattle.ndef_explain_tool.proofs.fault_objects.push_hex_fault.Goals as goal
-
-pub returns-in-Odd : goal.returns-in-Odd
-returns-in-Odd c = rw c.in-Odd.is c.push_named_fault.ensures

@@ -1,9 +1,0 @@
-use Rattle.std.proofs.Common.{◌≤◌, ◌+◌, length}
-use Rattle.ndef_explain_tool.proofs.Pieces.{KeepsOn}
-use Rattle.ndef_explain_tool.proofs.payload_lines.push_payloads.Given as goal
-
-abbrev pub invariant-loop-item : goal.invariant-loop-item
-invariant-loop-item l = record {
-  keeps : KeepsOn l.utf8 l.first l.fn.items l.item-iterator l.number l.initial.line l.line;
-  few : l.number + length l.item-iterator ≤ l.first + 65535;
-}

@@ -1,9 +1,0 @@
-use Rattle.std.proofs.Common.{◌≤◌, ◌+◌, length}
-use Rattle.ndef_explain_tool.proofs.Remarked.{KeepsOn}
-use Rattle.ndef_explain_tool.proofs.remark_lists.push_remarks_on_each.Given as goal
-
-abbrev pub invariant-loop-item : goal.invariant-loop-item
-invariant-loop-item l = record {
-  keeps : KeepsOn l.message.runs l.item-iterator l.number l.initial.remarks.items l.remarks.items;
-  few : l.number + length l.item-iterator ≤ 65536;
-}

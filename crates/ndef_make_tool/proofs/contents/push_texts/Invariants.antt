@@ -1,8 +1,0 @@
-use Rattle.std.proofs.Common.{map, take}
-use Rattle.ndef_make_tool.specs.Contents.{MakesContent}
-use Rattle.ndef_make_tool.proofs.Made.{AreKept}
-use Rattle.ndef_make_tool.proofs.contents.push_texts.Given as goal
-
-abbrev pub invariant-loop-text : goal.invariant-loop-text
-invariant-loop-text l =
-    AreKept (MakesContent l.payload) (map (λ text. (l.property, text.now)) (take l.text-index l.texts)) l.initial.records.items l.records.items

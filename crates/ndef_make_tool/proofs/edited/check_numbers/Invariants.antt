@@ -1,6 +1,0 @@
-use Rattle.std.proofs.Common.{◌≡◌, ◌<◌, ℕ, None, map}
-use Rattle.ndef_make_tool.specs.Editing.{misuse_at, number_of}
-use Rattle.ndef_make_tool.proofs.edited.check_numbers.Given as goal
-
-abbrev pub invariant-loop-at : goal.invariant-loop-at
-invariant-loop-at l = (before : ℕ) → before < l.at → misuse_at l.count (map number_of l.edits) before ≡ None

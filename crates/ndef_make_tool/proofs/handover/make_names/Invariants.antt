@@ -1,9 +1,0 @@
-use Rattle.std.proofs.Common.{◌≡◌, ◌++◌, length}
-use Rattle.ndef_make_tool.specs.CarrierWords.{references_left}
-use Rattle.ndef_make_tool.proofs.handover.make_names.Given as goal
-
-abbrev pub invariant-loop-reference : goal.invariant-loop-reference
-invariant-loop-reference l = l.names.items ++ references_left l.rest ≡ references_left l.references
-
-abbrev pub decreases-loop-reference : goal.decreases-loop-reference
-decreases-loop-reference l = length (references_left l.rest)

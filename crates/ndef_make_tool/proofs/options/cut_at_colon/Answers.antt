@@ -1,6 +1,0 @@
-use Rattle.std.proofs.Common.{lit<}
-use Rattle.ndef_make_tool.proofs.Words.{word_cut}
-use Rattle.ndef_make_tool.proofs.options.cut_at_colon.Goals as goal
-
-pub returns : goal.returns
-returns c = word_cut 58 (lit< tt) c.args.word.now c.split_once.result c.split_once.ensures.cases

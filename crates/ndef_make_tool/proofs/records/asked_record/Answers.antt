@@ -1,5 +1,0 @@
-use Rattle.std.proofs.Common.{rules}
-use Rattle.ndef_make_tool.proofs.records.asked_record.Goals as goal
-
-pub returns-in-Some-Record : goal.returns-in-Some-Record
-returns-in-Some-Record c = search rules

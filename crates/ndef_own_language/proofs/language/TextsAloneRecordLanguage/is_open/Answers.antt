@@ -1,5 +1,0 @@
-use Rattle.ndef_own_language.specs.ReadAs.{read_type}
-use Rattle.ndef_own_language.proofs.language.TextsAloneRecordLanguage.is_open.Goals as goal
-
-pub returns-clause-reached : goal.returns-clause-reached
-returns-clause-reached c = λ yes octets are tnf name. c.is_any.ensures.reached yes octets are (read_type tnf name)

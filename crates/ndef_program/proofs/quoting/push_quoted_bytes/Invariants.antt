@@ -1,9 +1,0 @@
-use Rattle.std.proofs.Common.{◌≡◌, ◌++◌, length}
-use Rattle.ndef_program.specs.Quoting.{quoted_bytes}
-use Rattle.ndef_program.proofs.quoting.push_quoted_bytes.Given as goal
-
-abbrev pub invariant-loop-byte : goal.invariant-loop-byte
-invariant-loop-byte l = l.line ++ quoted_bytes l.rest ≡ l.initial.line ++ quoted_bytes l.bytes
-
-abbrev pub decreases-loop-byte : goal.decreases-loop-byte
-decreases-loop-byte l = length l.rest

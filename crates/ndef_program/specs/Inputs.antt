@@ -1,8 +1,0 @@
--- Inputs by their names.
-use Rattle.std.specs.Prelude.{ℕ, List, Result}
-use Rattle.ndef_message.specs.declared.input.InputError.{InputError}
-use Rattle.ndef_program.specs.Quoting.{Text}
-
--- which bytes, or which fault, an input of a name gives, and what is left of the inputs
-abbrev pub GivesInput : Type 0 → Type 1
-GivesInput I = I → (name : Text) → (read : Result (List ℕ) InputError) → I → Type 0

@@ -1,0 +1,4 @@
+//! Worked rows, printed text, and memory, readers and writers that fail.
+mod commands;
+mod messages;
+mod values;
