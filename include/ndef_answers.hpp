@@ -27,6 +27,21 @@
 #define NDEF_LIFETIMEBOUND
 #endif
 
+/// Release 0.3.0 of the library has other names for some calls, and for a member of ndef_record and of ndef_limits.
+#if NDEF_VERSION_MAJOR == 0 && NDEF_VERSION_MINOR < 4
+#define ndef_default_limits ndef_usual_limits
+#define ndef_refusal_message ndef_why
+#define ndef_field_warning ndef_field_remark
+#define ndef_record_warning ndef_record_remark
+#define ndef_normalize ndef_rewrite
+#define ndef_split_uri ndef_uri_view
+#define ndef_message_builder ndef_built
+#define NDEF_BUFFER_TOO_SMALL NDEF_NO_ROOM
+#define NDEF_CHUNKS_MEMBER pieces
+#else
+#define NDEF_CHUNKS_MEMBER chunks
+#endif
+
 namespace ndef {
 
 // ---- answers
@@ -70,7 +85,7 @@ struct error {
     status what = NDEF_BAD_ARGUMENT; ///< never NDEF_OK
     reason why = {};                 ///< with NDEF_REFUSED, the reason; else 0
     std::uint64_t place = 0;         ///< with NDEF_REFUSED, the offset of the first refused byte; else 0
-    ndef_size needed = 0;            ///< with NDEF_NO_ROOM, the size that the buffer must have; else 0
+    ndef_size needed = 0;            ///< with NDEF_BUFFER_TOO_SMALL, the size that the buffer must have; else 0
     /// Where a record isn't written, its index in the message, from 0; `place` counts from its first byte then.
     std::optional<std::size_t> record{};
     argument which = argument::unknown; ///< with NDEF_BAD_ARGUMENT of a call that writes a message, which argument
@@ -222,14 +237,14 @@ public:
 
 /// A buffer of the caller, to which calls write one after the other. A call that succeeds takes what it wrote from the
 /// front of the buffer, so what it returned stays as it is. A call that fails takes nothing.
-class room {
+class buffer {
 public:
     /// A buffer of no bytes. A call that writes to it gives the size that it needs.
-    constexpr room() noexcept = default;
-    constexpr room(std::uint8_t *data, std::size_t size) noexcept : first(data), length(size) {}
+    constexpr buffer() noexcept = default;
+    constexpr buffer(std::uint8_t *data, std::size_t size) noexcept : first(data), length(size) {}
     template <class Container, class = std::enable_if_t<std::is_same_v<std::uint8_t *, decltype(detail::octets(
                                                                   std::data(std::declval<Container &>())))>>>
-    explicit room(Container &of) noexcept : first(detail::octets(std::data(of))), length(std::size(of)) {}
+    explicit buffer(Container &of) noexcept : first(detail::octets(std::data(of))), length(std::size(of)) {}
 
     constexpr std::uint8_t *data() const noexcept { return first; }
     constexpr std::size_t size() const noexcept { return length; }
@@ -251,11 +266,11 @@ private:
 namespace detail {
 constexpr error failure(std::uint32_t answer, const ndef_checked &why = {}, ndef_size needed = 0) noexcept {
     if (answer == NDEF_REFUSED) return {NDEF_REFUSED, static_cast<reason>(why.reason), why.place, 0};
-    return {static_cast<status>(answer), {}, 0, answer == NDEF_NO_ROOM ? needed : 0};
+    return {static_cast<status>(answer), {}, 0, answer == NDEF_BUFFER_TOO_SMALL ? needed : 0};
 }
 
 /// What a call writes to a buffer: call(memory, size, count, why).
-template <class Call> result<bytes> written(room &to, Call call) noexcept {
+template <class Call> result<bytes> written(buffer &to, Call call) noexcept {
     ndef_size count = 0;
     ndef_checked why = {};
     const std::uint32_t answer = call(to.data(), ndef_size{to.size()}, &count, &why);
@@ -268,21 +283,21 @@ template <class Call> std::string as_string(Call call) {
     ndef_size count = 0;
     ndef_checked why = {};
     std::string text;
-    if (call(static_cast<std::uint8_t *>(nullptr), ndef_size{0}, &count, &why) != NDEF_NO_ROOM) return text;
+    if (call(static_cast<std::uint8_t *>(nullptr), ndef_size{0}, &count, &why) != NDEF_BUFFER_TOO_SMALL) return text;
     text.resize(static_cast<std::size_t>(count));
     call(reinterpret_cast<std::uint8_t *>(text.data()), count, &count, &why);
     return text;
 }
 
 /// What a call of ndef.h writes whose last arguments are a buffer: call(words.., memory, size, count).
-template <class Call, class... Words> result<bytes> put(room &to, Call call, Words... words) noexcept {
+template <class Call, class... Words> result<bytes> put(buffer &to, Call call, Words... words) noexcept {
     return written(to, [&](std::uint8_t *memory, ndef_size size, ndef_size *count, ndef_checked *) {
         return call(words..., memory, size, count);
     });
 }
 
 /// The elements that a call of ndef.h writes to an array of the caller: call(words.., array, size, count). The count, or
-/// NDEF_NO_ROOM with the number of elements that are needed.
+/// NDEF_BUFFER_TOO_SMALL with the number of elements that are needed.
 template <class Element, class Call, class... Words>
 result<std::size_t> filled(Element *array, std::size_t size, Call call, Words... words) noexcept {
     ndef_size count = 0;
@@ -295,7 +310,7 @@ result<std::size_t> filled(Element *array, std::size_t size, Call call, Words...
 template <class Element, class Call, class... Words> std::vector<Element> all_of(Call call, Words... words) {
     std::vector<Element> array;
     const auto asked = filled<Element>(nullptr, 0, call, words...);
-    if (asked || asked.error().what != NDEF_NO_ROOM) return array;
+    if (asked || asked.error().what != NDEF_BUFFER_TOO_SMALL) return array;
     array.resize(static_cast<std::size_t>(asked.error().needed));
     filled(array.data(), array.size(), call, words...).has_value();
     return array;

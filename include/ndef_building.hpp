@@ -32,15 +32,15 @@ private:
     std::vector<std::uint8_t> held;
 };
 
-/// What a call writes to a buffer, in new memory: write(room) is called with a buffer of the size that it needs.
+/// What a call writes to a buffer, in new memory: write(buffer) is called with a buffer of the size that it needs.
 template <class Write> result<std::vector<std::uint8_t>> in_memory(Write write) {
-    room none;
+    buffer none;
     const result<bytes> asked = write(none);
     std::vector<std::uint8_t> made;
     if (asked) return made;
-    if (asked.error().what != NDEF_NO_ROOM) return asked.error();
+    if (asked.error().what != NDEF_BUFFER_TOO_SMALL) return asked.error();
     made.resize(static_cast<std::size_t>(asked.error().needed));
-    room exact(made);
+    buffer exact(made);
     const result<bytes> written = write(exact);
     if (!written) return written.error();
     return made;
@@ -83,11 +83,11 @@ public:
     }
 
     /// Writes the payload, as ndef_write_poster does.
-    result<bytes> write(room &to) const noexcept {
+    result<bytes> write(buffer &to) const noexcept {
         return write_poster(to, shelf.all(), how, titles.data(), titles.size(), icons.data(), icons.size());
     }
     result<std::vector<std::uint8_t>> payload() const {
-        return detail::in_memory([this](room &to) { return write(to); });
+        return detail::in_memory([this](buffer &to) { return write(to); });
     }
 
 private:
@@ -109,7 +109,7 @@ public:
         return static_cast<Builder &>(*this);
     }
     result<std::vector<std::uint8_t>> payload() const {
-        return detail::in_memory([this](room &to) { return static_cast<const Builder &>(*this).write(to); });
+        return detail::in_memory([this](buffer &to) { return static_cast<const Builder &>(*this).write(to); });
     }
 
 protected:
@@ -125,7 +125,7 @@ public:
         : number(collision), minor(minor_version) {}
 
     /// Writes the payload, as ndef_write_request does.
-    result<bytes> write(room &to) const noexcept {
+    result<bytes> write(buffer &to) const noexcept {
         return write_request(to, minor, number, shelf.all(), references.data(), references.size(), alternatives.data(),
                              alternatives.size());
     }
@@ -148,7 +148,7 @@ public:
     }
 
     /// Writes the payload, as ndef_write_select does.
-    result<bytes> write(room &to) const noexcept {
+    result<bytes> write(buffer &to) const noexcept {
         return write_select(to, how, shelf.all(), references.data(), references.size(), alternatives.data(),
                             alternatives.size());
     }
@@ -173,7 +173,7 @@ public:
     }
     /// The message of some records, as write_message writes it.
     template <class Records> static result<owned_message> write(const Records &records, const checking &how = {}) {
-        auto made = detail::in_memory([&](room &to) { return octets_of(write_message(to, records, how)); });
+        auto made = detail::in_memory([&](buffer &to) { return octets_of(write_message(to, records, how)); });
         return std::move(made).transform([](std::vector<std::uint8_t> &&all) { return owned_message(std::move(all)); });
     }
     static result<owned_message> write(std::initializer_list<new_record> records, const checking &how = {}) {

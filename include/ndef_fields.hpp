@@ -34,9 +34,9 @@ struct field {
 #if NDEF_VERSION_MAJOR > 0 || NDEF_VERSION_MINOR >= 3
 
 /// What is strange in a field of a message that is accepted, in a sentence of English, by its name and bytes, as
-/// ndef_field_remark writes it. None where nothing is known to be strange, and where the field has no name.
-inline std::optional<std::string> field_remark(const field &of) {
-    return detail::said(ndef_field_remark, static_cast<std::uint32_t>(of.name), of.octets.data(), of.octets.size());
+/// ndef_field_warning writes it. None where nothing is known to be strange, and where the field has no name.
+inline std::optional<std::string> field_warning(const field &of) {
+    return detail::said(ndef_field_warning, static_cast<std::uint32_t>(of.name), of.octets.data(), of.octets.size());
 }
 
 #endif
@@ -69,12 +69,12 @@ public:
     /// The fields, in memory that they own.
     explicit fields(kept of NDEF_LIFETIMEBOUND, const ndef_limits &within = limits()) {
         ndef_size count = 0;
-        if (tell(nullptr, 0, of, within, &count) != NDEF_NO_ROOM) return;
+        if (tell(nullptr, 0, of, within, &count) != NDEF_BUFFER_TOO_SMALL) return;
         own.resize(static_cast<std::size_t>(count));
         tell(own.data(), own.size(), of, within, &count);
     }
 
-    /// The same in an array of the caller. NDEF_NO_ROOM says how many elements it must have; NDEF_BAD_ARGUMENT: a limit is
+    /// The same in an array of the caller. NDEF_BUFFER_TOO_SMALL says how many elements it must have; NDEF_BAD_ARGUMENT: a limit is
     /// out of range, or NDEF_OPAQUE or an unknown flag is set.
     static result<fields> in(ndef_field *array, std::size_t size, kept of, const ndef_limits &within = limits()) {
         fields found;

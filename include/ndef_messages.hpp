@@ -14,9 +14,9 @@ namespace ndef {
 /// difference.
 enum class profile : std::uint32_t { strict = 0, standard = NDEF_STANDARD };
 
-/// How large a message may be and how it is checked, as ndef_limits says; it begins with ndef_usual_limits.
+/// How large a message may be and how it is checked, as ndef_limits says; it begins with ndef_default_limits.
 struct limits : ndef_limits {
-    limits() noexcept { ndef_usual_limits(this); }
+    limits() noexcept { ndef_default_limits(this); }
 };
 
 /// What the payload of a record is: NDEF_KIND_OTHER, NDEF_KIND_TEXT, ...
@@ -46,14 +46,14 @@ public:
     }
 
     /// The payload: in place if the record has one chunk, otherwise joined in the buffer.
-    result<bytes> payload(room &joined) const noexcept {
-        if (told.pieces == 1) return whole.part(told.payload_at, told.payload_length);
+    result<bytes> payload(buffer &joined) const noexcept {
+        if (told.NDEF_CHUNKS_MEMBER == 1) return whole.part(told.payload_at, told.payload_length);
         return detail::written(joined, [this](auto... words) { return join(words...); });
     }
 
-    /// The payload in place. A record of several chunks has NDEF_NO_ROOM, and the size of the buffer that joins them.
+    /// The payload in place. A record of several chunks has NDEF_BUFFER_TOO_SMALL, and the size of the buffer that joins them.
     result<bytes> payload() const noexcept {
-        room none;
+        buffer none;
         return payload(none);
     }
 
@@ -64,17 +64,17 @@ public:
 
     /// The payload read as a text, uri, poster, request, select or another view. NDEF_BAD_ARGUMENT if the record has
     /// another type. A record of several chunks needs a buffer for its joined payload.
-    template <class View> result<View> as(room &joined, profile how = profile::strict) const noexcept {
+    template <class View> result<View> as(buffer &joined, profile how = profile::strict) const noexcept {
         if (!is(View::type_name)) return error{};
         return payload(joined).and_then([how](bytes whole_payload) { return View::read(whole_payload, how); });
     }
     template <class View> result<View> as(profile how = profile::strict) const noexcept {
-        room none;
+        buffer none;
         return as<View>(none, how);
     }
 
     ndef_size payload_size() const noexcept { return told.payload_length; }
-    ndef_size chunks() const noexcept { return told.pieces; }
+    ndef_size chunks() const noexcept { return told.NDEF_CHUNKS_MEMBER; }
     bool is_last() const noexcept { return told.last != 0; }
 
     /// Where the record begins in the message, and where its parts lie.
@@ -171,10 +171,10 @@ template <class Call, class... Given> std::optional<std::string> said(Call call,
 }
 } // namespace detail
 
-/// What was wanted where bytes are refused, in a sentence of English, or what the reason means, as ndef_why writes it. None
+/// What was wanted where bytes are refused, in a sentence of English, or what the reason means, as ndef_refusal_message writes it. None
 /// where they begin with a message, where a limit is out of range, and where NDEF_OPAQUE or an unknown flag is set.
 inline std::optional<std::string> why(bytes of, const ndef_limits &within = limits()) {
-    return detail::said(ndef_why, of.data(), of.size(), &within);
+    return detail::said(ndef_refusal_message, of.data(), of.size(), &within);
 }
 
 /// A sentence that may help where bytes are refused, as ndef_hint writes it: it names commands. None also where nothing is
@@ -186,10 +186,10 @@ inline std::optional<std::string> hint(bytes of, const ndef_limits &within = lim
 // ---- what is strange in messages that are accepted
 
 /// What is strange in the record with an index, counted from 0, of the message with which the bytes begin, beside its other
-/// records, in a sentence of English, as ndef_record_remark writes it. None where nothing is known to be strange, where there is no such record or
+/// records, in a sentence of English, as ndef_record_warning writes it. None where nothing is known to be strange, where there is no such record or
 /// no message, and where the message has more than 64 records.
-inline std::optional<std::string> record_remark(bytes of, ndef_size index) {
-    return detail::said(ndef_record_remark, of.data(), of.size(), index);
+inline std::optional<std::string> record_warning(bytes of, ndef_size index) {
+    return detail::said(ndef_record_warning, of.data(), of.size(), index);
 }
 
 #endif

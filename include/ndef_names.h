@@ -67,8 +67,8 @@ enum ndef_field_names {
 
 /* The list of what most calls return, as NDEF_REASONS: NDEF_STATUSES(X) is X(number, name, text) for each. */
 #define NDEF_STATUSES(X) \
-    X(0, OK, "Ok") X(1, REFUSED, "Refused") X(2, NO_ROOM, "NoRoom") X(3, BAD_ARGUMENT, "BadArgument") \
-    X(4, END, "End") X(5, MORE, "More")
+    X(0, OK, "Ok") X(1, REFUSED, "Refused") X(2, BUFFER_TOO_SMALL, "BufferTooSmall") \
+    X(3, BAD_ARGUMENT, "BadArgument") X(4, END, "End") X(5, MORE, "More")
 
 /* The list of what reasons mean: NDEF_SENTENCES(X) is X(number, name, sentence) for each. ndef-explain prints these. */
 #define NDEF_SENTENCES(X) \
@@ -93,7 +93,7 @@ enum ndef_field_names {
     X(20, URI_MISSING, "A smart poster has to have a URI record.") \
     X(21, URI_AGAIN, "A smart poster has only one URI record.") \
     X(22, VERSION, "The handover has another major version than 1.") \
-    X(23, DOES_NOT_FIT, "Nothing that may stand here fits the lengths that were given before.") \
+    X(23, DOES_NOT_FIT, "Nothing that could follow this byte fits the lengths given so far.") \
     X(24, END_OF_INPUT, "The input ends within a message.") \
     X(25, COLLISION_MISSING, "A handover request has to begin with a collision resolution record.")
 
@@ -125,7 +125,7 @@ NDEF_INLINE const char *ndef_sentence_text(uint32_t reason) {
     switch (reason) { NDEF_SENTENCES(NDEF_TEXT_CASE) default: return "unknown"; }
 }
 
-/* Returns the name of an ndef_status, such as "NoRoom", or "unknown" for another number. */
+/* Returns the name of an ndef_status, such as "BufferTooSmall", or "unknown" for another number. */
 NDEF_INLINE const char *ndef_status_text(uint32_t status) {
     switch (status) { NDEF_STATUSES(NDEF_TEXT_CASE) default: return "unknown"; }
 }

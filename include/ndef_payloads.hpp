@@ -26,7 +26,7 @@ public:
     bytes encoded() const noexcept { return part(told.text_at, told.text_length); }
 
     /// The text in UTF-8: in place if it is encoded so, otherwise converted in the buffer.
-    result<std::string_view> utf8(room &converted) const noexcept {
+    result<std::string_view> utf8(buffer &converted) const noexcept {
         if (!is_utf16()) return encoded().text();
         const auto made = detail::written(converted, [this](auto... words) { return convert(words...); });
         return made.transform([](bytes found) { return found.text(); });
@@ -49,7 +49,7 @@ class uri : public detail::payload_view<ndef_uri_parts> {
 public:
     static constexpr std::string_view type_name = "U";
     static result<uri> read(kept payload NDEF_LIFETIMEBOUND, profile how = profile::strict) noexcept {
-        auto found = read_by<uri>(payload, ndef_uri_view, static_cast<std::uint32_t>(how));
+        auto found = read_by<uri>(payload, ndef_split_uri, static_cast<std::uint32_t>(how));
         if (found) found->reading = how;
         return found;
     }
@@ -58,7 +58,7 @@ public:
     std::string_view rest() const noexcept { return part(told.rest_at, told.rest_length).text(); }
 
     /// The URI in UTF-8, its prefix spelled out, in the buffer.
-    result<std::string_view> utf8(room &spelled) const noexcept {
+    result<std::string_view> utf8(buffer &spelled) const noexcept {
         const auto made = detail::written(spelled, [this](auto... words) { return spell(words...); });
         return made.transform([](bytes found) { return found.text(); });
     }
@@ -289,7 +289,7 @@ public:
           own(detail::all_of<ndef_link>(ndef_links, told.whole.data(), ndef_size{told.whole.size()}, handover.data(),
                                         ndef_size{handover.size()})) {}
 
-    /// The same in an array of the caller. NDEF_NO_ROOM says how many elements it must have; NDEF_BAD_ARGUMENT: it is no
+    /// The same in an array of the caller. NDEF_BUFFER_TOO_SMALL says how many elements it must have; NDEF_BAD_ARGUMENT: it is no
     /// handover.
     static result<links> in(ndef_link *array, std::size_t size, const message &of, kept handover) {
         const bytes whole = of.octets();

@@ -11,7 +11,7 @@ namespace ndef {
 
 // ---- writing
 //
-// Each function writes to the front of a buffer and returns what it wrote. NDEF_NO_ROOM gives the size that is needed.
+// Each function writes to the front of a buffer and returns what it wrote. NDEF_BUFFER_TOO_SMALL gives the size that is needed.
 
 /// How a text is encoded: in UTF-8, or in UTF-16, big-endian with a byte order mark.
 enum class encoding : std::uint32_t { utf8 = 0, utf16 = NDEF_AS_UTF16 };
@@ -20,78 +20,78 @@ enum class encoding : std::uint32_t { utf8 = 0, utf16 = NDEF_AS_UTF16 };
 enum class handover : std::uint32_t { request = NDEF_REQUEST, select = NDEF_SELECT };
 
 /// The payload of a Text record, as ndef_write_text writes it. The text is given in UTF-8.
-inline result<bytes> write_text(room &to, std::string_view language, std::string_view text,
+inline result<bytes> write_text(buffer &to, std::string_view language, std::string_view text,
                                 encoding how = encoding::utf8) noexcept {
     return detail::put(to, ndef_write_text, detail::octets(language.data()), language.size(),
                        detail::octets(text.data()), text.size(), static_cast<std::uint32_t>(how));
 }
 
 /// The payload of a URI record, as ndef_write_uri writes it.
-inline result<bytes> write_uri(room &to, std::string_view uri) noexcept {
+inline result<bytes> write_uri(buffer &to, std::string_view uri) noexcept {
     return detail::put(to, ndef_write_uri, detail::octets(uri.data()), uri.size());
 }
 
 /// The payload of an Action record of a smart poster.
-inline result<bytes> write_action(room &to, action what) noexcept {
+inline result<bytes> write_action(buffer &to, action what) noexcept {
     return detail::put(to, ndef_write_action, static_cast<std::uint32_t>(what));
 }
 
 /// The payload of a Size record of a smart poster: the size in bytes of what the URI leads to.
-inline result<bytes> write_size(room &to, std::uint32_t size_in_bytes) noexcept {
+inline result<bytes> write_size(buffer &to, std::uint32_t size_in_bytes) noexcept {
     return detail::put(to, ndef_write_size, size_in_bytes);
 }
 
 /// The payload of a Handover Carrier record, as ndef_write_carrier writes it.
-inline result<bytes> write_carrier(room &to, std::uint32_t format, std::string_view type, bytes data) noexcept {
+inline result<bytes> write_carrier(buffer &to, std::uint32_t format, std::string_view type, bytes data) noexcept {
     return detail::put(to, ndef_write_carrier, format, detail::octets(type.data()), type.size(), data.data(),
                        data.size());
 }
 
 /// The payload of an Alternative Carrier record whose references are parts of some bytes, as ndef_write_alternative
 /// writes it: the carrier data reference first, then the auxiliary ones.
-inline result<bytes> write_alternative(room &to, power state, bytes references, const ndef_part *parts,
+inline result<bytes> write_alternative(buffer &to, power state, bytes references, const ndef_part *parts,
                                        std::size_t parts_count) noexcept {
     return detail::put(to, ndef_write_alternative, static_cast<std::uint32_t>(state), references.data(),
                        references.size(), parts, parts_count);
 }
 
 /// The same with a carrier data reference alone.
-inline result<bytes> write_alternative(room &to, power state, std::string_view data_reference) noexcept {
+inline result<bytes> write_alternative(buffer &to, power state, std::string_view data_reference) noexcept {
     const ndef_part part = {0, data_reference.size()};
     return write_alternative(to, state, bytes(data_reference), &part, 1);
 }
 
 /// The payload of a Collision Resolution record, the first of a request: its random number, at most 65535.
-inline result<bytes> write_collision(room &to, std::uint32_t number) noexcept {
+inline result<bytes> write_collision(buffer &to, std::uint32_t number) noexcept {
     return detail::put(to, ndef_write_collision, number);
 }
 
 /// The payload of an Error record of a select, as ndef_write_error writes it.
-inline result<bytes> write_error(room &to, std::uint32_t error_reason, bytes data) noexcept {
+inline result<bytes> write_error(buffer &to, std::uint32_t error_reason, bytes data) noexcept {
     return detail::put(to, ndef_write_error, error_reason, data.data(), data.size());
 }
 
 /// The same for the reasons 1 to 3, whose data are a number, as ndef_write_error_number writes it.
-inline result<bytes> write_error_number(room &to, std::uint32_t error_reason, std::uint32_t number) noexcept {
+inline result<bytes> write_error_number(buffer &to, std::uint32_t error_reason, std::uint32_t number) noexcept {
     return detail::put(to, ndef_write_error_number, error_reason, number);
 }
 
 /// The payload of a Handover Request or Select record, as ndef_write_handover writes it: a version and a message.
-inline result<bytes> write_handover(room &to, handover which, std::uint32_t major_version, std::uint32_t minor_version,
+inline result<bytes> write_handover(buffer &to, handover which, std::uint32_t major_version, std::uint32_t minor_version,
                                     bytes records) noexcept {
     return detail::put(to, ndef_write_handover, static_cast<std::uint32_t>(which), major_version, minor_version,
                        records.data(), records.size());
 }
 
 /// The payload of a Smart Poster record whose parts lie in some bytes, as ndef_write_poster writes it.
-inline result<bytes> write_poster(room &to, bytes from, const ndef_poster_writing &how,
+inline result<bytes> write_poster(buffer &to, bytes from, const ndef_poster_writing &how,
                                   const ndef_title_writing *titles = nullptr, std::size_t titles_count = 0,
                                   const ndef_icon_writing *icons = nullptr, std::size_t icons_count = 0) noexcept {
     return detail::put(to, ndef_write_poster, from.data(), from.size(), &how, titles, titles_count, icons, icons_count);
 }
 
 /// The payload of a Handover Request record whose references are parts of some bytes, as ndef_write_request writes it.
-inline result<bytes> write_request(room &to, std::uint32_t minor_version, std::uint32_t collision, bytes from,
+inline result<bytes> write_request(buffer &to, std::uint32_t minor_version, std::uint32_t collision, bytes from,
                                    const ndef_part *references, std::size_t references_count,
                                    const ndef_alternative_writing *alternatives,
                                    std::size_t alternatives_count) noexcept {
@@ -100,7 +100,7 @@ inline result<bytes> write_request(room &to, std::uint32_t minor_version, std::u
 }
 
 /// The payload of a Handover Select record whose parts lie in some bytes, as ndef_write_select writes it.
-inline result<bytes> write_select(room &to, const ndef_select_writing &how, bytes from, const ndef_part *references,
+inline result<bytes> write_select(buffer &to, const ndef_select_writing &how, bytes from, const ndef_part *references,
                                   std::size_t references_count, const ndef_alternative_writing *alternatives,
                                   std::size_t alternatives_count) noexcept {
     return detail::put(to, ndef_write_select, &how, from.data(), from.size(), references, references_count,
@@ -136,7 +136,7 @@ inline ndef_writing writing_of(const new_record &one, std::uint32_t flags) noexc
 }
 
 /// Writes a record, as ndef_write_record does.
-inline result<bytes> write_record(room &to, const new_record &one, std::uint32_t flags) noexcept {
+inline result<bytes> write_record(buffer &to, const new_record &one, std::uint32_t flags) noexcept {
     const ndef_writing how = writing_of(one, flags);
     return put(to, ndef_write_record, octets(one.type.data()), one.type.size(), octets(one.id.data()), one.id.size(),
                one.payload.data(), one.payload.size(), &how);
@@ -144,9 +144,9 @@ inline result<bytes> write_record(room &to, const new_record &one, std::uint32_t
 
 /// Whether the library writes a record.
 inline bool is_written(const new_record &one) noexcept {
-    room none;
+    buffer none;
     const auto made = write_record(none, one, 0);
-    return made || made.error().what == NDEF_NO_ROOM;
+    return made || made.error().what == NDEF_BUFFER_TOO_SMALL;
 }
 
 /// Which argument of a record without a spelling is wrong: that with another of which the library writes it.
@@ -210,11 +210,11 @@ struct checking {
 
 /// A message of records, one or more, as ndef_write_record writes each. NDEF_BAD_ARGUMENT if there is no record, or one of
 /// them can't be written, and NDEF_REFUSED if a check refuses what is written: the error says which record; then which
-/// argument, or where in the record and why. NDEF_NO_ROOM gives the size of the whole message. The buffer may hold a
+/// argument, or where in the record and why. NDEF_BUFFER_TOO_SMALL gives the size of the whole message. The buffer may hold a
 /// part of the message after an error.
 template <class Records>
-result<message> write_message(room &to, const Records &records, const checking &how = {}) noexcept {
-    room rest = to;
+result<message> write_message(buffer &to, const Records &records, const checking &how = {}) noexcept {
+    buffer rest = to;
     ndef_size whole = 0;
     std::size_t index = 0;
     std::uint32_t place = NDEF_WRITE_FIRST;
@@ -222,25 +222,25 @@ result<message> write_message(room &to, const Records &records, const checking &
         const new_record one = *at;
         if (++at == std::end(records)) place |= NDEF_WRITE_LAST;
         const auto made = detail::write_record(rest, one, place);
-        if (!made && made.error().what != NDEF_NO_ROOM) return detail::of_record(made.error(), index, one);
+        if (!made && made.error().what != NDEF_BUFFER_TOO_SMALL) return detail::of_record(made.error(), index, one);
         whole += made ? made->size() : made.error().needed;
     }
     if (whole == 0) return error{NDEF_BAD_ARGUMENT, {}, 0, 0, {}, argument::records};
-    if (whole > to.size()) return detail::failure(NDEF_NO_ROOM, {}, whole);
+    if (whole > to.size()) return detail::failure(NDEF_BUFFER_TOO_SMALL, {}, whole);
     const message made = message::unchecked(bytes(to.data(), to.size()).part(0, whole));
     const auto found = how.is_done ? detail::accepted(made, how.within) : made;
     if (found) to.take(whole);
     return found;
 }
-inline result<message> write_message(room &to, std::initializer_list<new_record> records, const checking &how = {}) noexcept {
+inline result<message> write_message(buffer &to, std::initializer_list<new_record> records, const checking &how = {}) noexcept {
     return write_message<std::initializer_list<new_record>>(to, records, how);
 }
 
-/// The message again, each record in one chunk, as ndef_rewrite writes it.
-inline result<message> rewrite(room &to, const message &from, bool is_long = false) noexcept {
+/// The message again, each record in one chunk, as ndef_normalize writes it.
+inline result<message> normalize(buffer &to, const message &from, bool is_long = false) noexcept {
     const bytes whole = from.octets();
     const std::uint32_t flags = is_long ? NDEF_WRITE_LONG : 0;
-    return detail::put(to, ndef_rewrite, whole.data(), whole.size(), flags).transform([](bytes made) {
+    return detail::put(to, ndef_normalize, whole.data(), whole.size(), flags).transform([](bytes made) {
         return message::unchecked(made);
     });
 }
@@ -249,7 +249,7 @@ inline result<message> rewrite(room &to, const message &from, bool is_long = fal
 /// to leave a message that message::check takes within the limits, unless the builder is ndef::unchecked.
 class builder {
 public:
-    explicit builder(room to, const checking &how = {}) noexcept : memory(to), is_checked(how.is_done) {
+    explicit builder(buffer to, const checking &how = {}) noexcept : memory(to), is_checked(how.is_done) {
         ndef_begin(&how.within, &before_last);
     }
 
@@ -280,7 +280,7 @@ public:
 private:
     /// Appends a record by a call of ndef.h: call(built, words.., memory, size, count).
     template <class Call, class... Words> result<message> append(Call call, Words... words) noexcept {
-        const ndef_built before = built;
+        const ndef_message_builder before = built;
         const std::uint8_t header = before.length ? memory.data()[before.last_at] : std::uint8_t{0};
         ndef_size count = 0;
         const std::uint32_t answer = call(&built, words..., memory.data(), memory.size(), &count);
@@ -298,7 +298,7 @@ private:
     }
 
     /// Checks the new record after all others. The record that was the last says so no longer, and is fed as it is now.
-    std::uint32_t feed(const ndef_built &before) noexcept {
+    std::uint32_t feed(const ndef_message_builder &before) noexcept {
         ndef_checker now = before_last;
         if (before.length) ndef_feed(&now, memory.data() + fed, before.length - fed, &refused);
         ndef_checker after = now;
@@ -307,8 +307,8 @@ private:
         return answer;
     }
 
-    room memory;
-    ndef_built built = {};
+    buffer memory;
+    ndef_message_builder built = {};
     bool is_checked;
     ndef_checker before_last = {}; ///< it was fed the bytes before the last record, of which there are `fed`
     ndef_size fed = 0;
@@ -349,7 +349,7 @@ public:
     /// Writes the next bytes of the record to the buffer, as many as there are and fit. The payload goes on with the part,
     /// of which what is written is taken off its front. No bytes where the record is whole, and where the part gives no
     /// more. NDEF_BAD_ARGUMENT: the part has more bytes than are left of the payload; nothing is written.
-    result<bytes> next(bytes &part, room &to) noexcept {
+    result<bytes> next(bytes &part, buffer &to) noexcept {
         const std::uint32_t before = state.taken;
         const auto made = call(part, to);
         part = part.from(state.taken - before);
@@ -360,7 +360,7 @@ public:
     /// Whether the record is whole: no other call without a part and a buffer fails.
     bool is_whole() const noexcept {
         record_writer copy = *this;
-        room none;
+        buffer none;
         return !copy.call({}, none);
     }
 
@@ -370,7 +370,7 @@ public:
 private:
     explicit record_writer(const new_record &one) noexcept : type(one.type), id(one.id) {}
 
-    result<bytes> call(bytes part, room &to) noexcept {
+    result<bytes> call(bytes part, buffer &to) noexcept {
         return detail::put(to, ndef_writer_next, &state, detail::octets(type.data()), type.size(), detail::octets(id.data()),
                            id.size(), part.data(), part.size());
     }
@@ -390,9 +390,9 @@ public:
     message_writer(const Records &&, const checking & = {}) = delete;
 
     /// Writes the next bytes of the message, as many as there are and fit; none where it is whole. The errors are those of
-    /// write_message but for NDEF_NO_ROOM, and each later call returns the same.
-    result<bytes> next(room &to) noexcept {
-        room rest = to;
+    /// write_message but for NDEF_BUFFER_TOO_SMALL, and each later call returns the same.
+    result<bytes> next(buffer &to) noexcept {
+        buffer rest = to;
         while (!failed && rest.size() > 0 && at != end) step(rest);
         if (failed) return *failed;
         return to.take(to.size() - rest.size());
@@ -400,7 +400,7 @@ public:
 
 private:
     /// Writes the next bytes of a record, and checks them. Of one that is whole it goes on to the next one.
-    void step(room &to) noexcept {
+    void step(buffer &to) noexcept {
         if (!writer && !begin()) return;
         const bytes made = writer->next(left, to).value_or(bytes());
         if (made.empty()) {

@@ -1,0 +1,131 @@
+// Written by ports/erase of crates/ndef_c/src/hints.rt, which has the contracts: do not edit.
+//! Hints for bytes that are refused, in sentences and by numbers.
+
+use crate::proved::ndef_c::buffer::give;
+use crate::proved::ndef_c::fields::typed_limits;
+use crate::proved::ndef_c::limits::NdefLimits;
+use crate::proved::ndef_c::refusal_message::refusal_of;
+use crate::proved::ndef_c::status::{BAD_ARGUMENT, END, OK};
+use crate::proved::ndef_diagnostics::{hint_at, DumpText, Hint, Wrapping};
+use crate::proved::ndef_value::Limits;
+
+/// An NDEF message TLV of a tag has bytes for a message, or none.
+pub const HINT_TLV: u32 = 1;
+/// A message comes after the attribute block of a Type 3 Tag.
+pub const HINT_ATTRIBUTES: u32 = 2;
+/// A message comes after its length, as in a file of a Type 4 Tag.
+pub const HINT_FILE: u32 = 3;
+/// A message begins after other bytes.
+pub const HINT_MESSAGE: u32 = 4;
+/// The terminator of a tag's TLV blocks is in place of a message.
+pub const HINT_TERMINATOR: u32 = 5;
+/// The bytes are hexadecimal digits.
+pub const HINT_DIGITS: u32 = 6;
+/// The bytes are a dump by xxd.
+pub const HINT_XXD: u32 = 7;
+/// The bytes are a dump by hexdump -C.
+pub const HINT_HEXDUMP: u32 = 8;
+/// The bytes are a dump by od or hexdump, which may show numbers of two bytes.
+pub const HINT_WORDS: u32 = 9;
+/// The bytes are an NFC file of a Flipper.
+pub const HINT_FLIPPER: u32 = 10;
+/// The bytes are what the client of a Proxmark prints.
+pub const HINT_PROXMARK: u32 = 11;
+/// The bytes may be base64.
+pub const HINT_BASE64: u32 = 12;
+/// The identifier code of a URI may be missing.
+pub const HINT_CODE: u32 = 13;
+/// A reader of the standard profile accepts the bytes.
+pub const HINT_STANDARD: u32 = 14;
+
+/// What may help where bytes are refused, by numbers.
+#[repr(C)]
+#[derive(Clone, Copy, Debug, Default, PartialEq, Eq, Hash)]
+pub struct NdefFound {
+    /// The hint, one of ndef_hint_number.
+    pub(crate) hint: u32,
+    /// The offset at which a message may begin; 0 where the hint names none.
+    pub(crate) at: usize,
+    /// The number of bytes that a tag has for it; 0 where the hint names none.
+    pub(crate) length: usize,
+}
+
+/// The number of a hint on what a tag has for a message.
+fn tag_number(wrapping: Wrapping) -> u32 {
+    match wrapping {
+        Wrapping::Block => HINT_TLV,
+        Wrapping::Attributes => HINT_ATTRIBUTES,
+        Wrapping::File => HINT_FILE,
+    }
+}
+
+/// The number of a hint on a text that spells bytes.
+fn dump_number(text: DumpText) -> u32 {
+    match text {
+        DumpText::Digits => HINT_DIGITS,
+        DumpText::Xxd => HINT_XXD,
+        DumpText::Hexdump => HINT_HEXDUMP,
+        DumpText::Words => HINT_WORDS,
+        DumpText::Flipper => HINT_FLIPPER,
+        DumpText::Proxmark => HINT_PROXMARK,
+        DumpText::Base64 => HINT_BASE64,
+    }
+}
+
+/// The number of a hint.
+fn hint_number(hint: Hint) -> u32 {
+    match hint {
+        Hint::InTag(found) => tag_number(found.wrapping),
+        Hint::MessageAt(_) => HINT_MESSAGE,
+        Hint::AfterBlocks => HINT_TERMINATOR,
+        Hint::Text(text) => dump_number(text),
+        Hint::CodeLeftOut => HINT_CODE,
+        Hint::StandardProfile => HINT_STANDARD,
+    }
+}
+
+/// The hint that applies where the bytes are refused.
+fn hint_of(bytes: &[u8], limits: Limits) -> Option<Hint> {
+    let refusal = refusal_of(bytes, limits)?;
+    match hint_at(bytes, limits, refusal) {
+        Some(hint) => Some(hint),
+        None => None,
+    }
+}
+
+/// Writes what may help where the bytes are refused to the buffer.
+fn give_hint(bytes: &[u8], limits: Limits, buffer: &mut [u8], count: &mut usize) -> u32 {
+    match hint_of(bytes, limits) {
+        Some(hint) => {
+            let sentence = hint.sentence();
+            give(sentence.as_slice(), buffer, count)
+        }
+        None => END,
+    }
+}
+
+/// Writes what may help where the bytes are refused to the buffer: a sentence of English, in ASCII and with no NUL
+/// after it.
+pub fn ndef_hint(bytes: &[u8], limits: &NdefLimits, buffer: &mut [u8], count: &mut usize) -> u32 {
+    let Some(limits) = typed_limits(limits) else {
+        return BAD_ARGUMENT;
+    };
+    give_hint(bytes, limits, buffer, count)
+}
+
+/// Says by numbers what may help where the bytes are refused: which hint it is, and of one on the memory of a tag where
+/// a message may begin and how many bytes the tag has for it.
+///
+/// - `OK`: `out` has the hint whose sentence ndef_hint writes.
+/// - `END`: the bytes begin with a message, or nothing is known to help; `out` is unchanged.
+/// - `BAD_ARGUMENT`: as with ndef_fields; `out` is unchanged.
+pub fn ndef_find_hint(bytes: &[u8], limits: &NdefLimits, out: &mut NdefFound) -> u32 {
+    let Some(limits) = typed_limits(limits) else {
+        return BAD_ARGUMENT;
+    };
+    let Some(hint) = hint_of(bytes, limits) else {
+        return END;
+    };
+    *out = NdefFound { hint: hint_number(hint), at: hint.place() as usize, length: hint.length() as usize };
+    OK
+}

@@ -1,0 +1,106 @@
+// Written by ports/erase of crates/ndef_diagnostics/src/hint_wording.rt, which has the contracts: do not edit.
+//! The sentences of hints, and what they name by numbers.
+
+use crate::proved::ndef_diagnostics::dump_text::DumpText;
+use crate::proved::ndef_diagnostics::tag_memory::{Found, Wrapping};
+use crate::proved::ndef_diagnostics::{Hint, Sentence};
+
+impl Hint {
+    /// The sentence of English for it: at most 192 bytes of ASCII.
+    pub fn sentence(self) -> Sentence {
+        match self {
+            Hint::InTag(found) => tag_sentence(found),
+            Hint::Text(text) => dump_sentence(text),
+            Hint::MessageAt(place) => near_sentence(place),
+            Hint::AfterBlocks => {
+                Sentence::of(b"FE (hexadecimal) ends the TLV blocks of a tag; what comes after it is no message.")
+            }
+            Hint::CodeLeftOut => Sentence::of(b"68 (hexadecimal) is the letter h: was the identifier code left out?"),
+            Hint::StandardProfile => {
+                Sentence::of(b"The standard profile reads this (`--profile standard`, in C NDEF_STANDARD).")
+            }
+        }
+    }
+
+    /// The place where a message may begin, counted from the first byte; 0 where the hint names none.
+    pub fn place(self) -> u64 {
+        match self {
+            Hint::InTag(found) => u64::from(found.at),
+            Hint::MessageAt(place) => place,
+            _ => 0,
+        }
+    }
+
+    /// The number of bytes that a tag has for that message; 0 where the hint names none.
+    pub fn length(self) -> u64 {
+        match self {
+            Hint::InTag(found) => u64::from(found.length),
+            _ => 0,
+        }
+    }
+}
+
+/// The sentence for a message at a place.
+fn near_sentence(place: u64) -> Sentence {
+    let mut sentence = Sentence::new();
+    sentence.push(b"The bytes may begin with what surrounds a message on a tag; a message begins at byte ");
+    sentence.push_number(place);
+    sentence.push(b".");
+    sentence
+}
+
+/// Appends a number and a text.
+fn push_both(sentence: &mut Sentence, number: u64, text: &[u8]) {
+    sentence.push_number(number);
+    sentence.push(text);
+}
+
+/// Returns the words for the bytes that surround a message on a tag.
+fn wrapping_text(wrapping: Wrapping) -> &'static [u8] {
+    match wrapping {
+        Wrapping::Block => b", in an NDEF TLV of a tag",
+        Wrapping::Attributes => b", after the attribute block of a Type 3 Tag",
+        Wrapping::File => b", after its length, as in a file of a Type 4 Tag",
+    }
+}
+
+/// Appends the length and the place of a message on a tag, and the beginning of a command.
+fn push_placed(sentence: &mut Sentence, found: Found) {
+    push_both(sentence, u64::from(found.length), b" may begin at byte ");
+    push_both(sentence, u64::from(found.at), wrapping_text(found.wrapping));
+    sentence.push(b": `tail -c +");
+}
+
+/// Appends the rest of the command, which gives the bytes of the message.
+fn push_cut(sentence: &mut Sentence, found: Found) {
+    push_both(sentence, u64::from(found.at) + 1, b" | head -c ");
+    push_both(sentence, u64::from(found.length), b"`.");
+}
+
+/// The sentence for what a tag has for a message.
+fn tag_sentence(found: Found) -> Sentence {
+    if found.length == 0 {
+        return Sentence::of(b"This tag is empty: it has no bytes for a message.");
+    }
+    let mut sentence = Sentence::of(b"A message of length ");
+    push_placed(&mut sentence, found);
+    push_cut(&mut sentence, found);
+    sentence
+}
+
+/// The sentence for a text that spells bytes.
+fn dump_sentence(text: DumpText) -> Sentence {
+    Sentence::of(match text {
+        DumpText::Digits => b"These are hexadecimal digits, not the bytes that they spell; `--hex` reads them.",
+        DumpText::Xxd => b"This is a dump by xxd, not the bytes that it spells; `--hex` reads it.",
+        DumpText::Hexdump => b"This is a dump by hexdump, not the bytes that it spells; `--hex` reads it.",
+        DumpText::Words => {
+            b"This is a dump by od or hexdump, not the bytes; `--hex` reads those of `hexdump -C` and xxd."
+        }
+        DumpText::Flipper => {
+            b"This is a file of a Flipper; `--hex` reads what `sed -n 's/^Page [0-9]*: //p'` leaves of it."
+        }
+        DumpText::Proxmark => b"This is what a Proxmark prints, not the bytes; `--hex` reads the digits of its blocks.",
+        DumpText::Base64 => b"This may be base64, not the bytes that it spells; `base64 -d` gives them.",
+    })
+}
