@@ -19,7 +19,8 @@
 #   make web         makes the web page and the modules for JavaScript in out/web
 #   make npm         makes the package for JavaScript in out, with the library of dist/
 #   make amalgamation    makes the library for C as one C file, in out/amalgamation; it needs rt
-#   make dist        makes dist/ anew of what is proved; it needs rt (ports/README.md says what comes first)
+#   make dist        makes dist/ anew of what is proved, where it lacks nothing of the release that dist/ is; it needs rt (ports/README.md
+#                    says what comes first)
 #   make release     makes out/simbegyor-VERSION.tar.xz (CONTRIBUTING.md says how a release is made); it needs rt
 #   make boards      makes the library for ESP-IDF, Zephyr, PlatformIO and Arduino of dist/, in out/boards
 #   make TARGET=aarch64-linux    makes the library for C for AArch64 Linux alone, in out/aarch64-linux
@@ -70,41 +71,45 @@ $(foreach goal,install install-library deb debian web,$(call needs,$(goal),pytho
 $(foreach goal,wheel sdist,$(call needs,$(goal),$(PYTHON),python3))
 $(foreach program,dpkg-deb dpkg-shlibdeps,$(call needs,deb,$(program),dpkg-dev))
 
-commands := ndef ndef-make ndef-explain
+links := ndef-make ndef-explain
+commands := ndef $(links)
 library := out/lib/libsimbegyor-ndef.so.$(VERSION)
 cmake = $(LIBDIR)/cmake/simbegyor-ndef
-modules := $(wildcard python/simbegyor_ndef/*.py python/simbegyor_ndef/py.typed)
+modules := $(wildcard bindings/python/simbegyor_ndef/*.py bindings/python/simbegyor_ndef/py.typed)
 module := out/python/simbegyor_ndef
 module_data := simbegyor_ndef-$(python_version).dist-info
-pages := $(wildcard man/*.1)
+pages := $(wildcard packaging/man/*.1)
 calls = $(shell sed -nE 's/^(uint32_t|void) (ndef_[a-z0-9_]+).*/\2/p' $(header))
 call_pages = $(patsubst %,out/man3/%.3,$(calls) simbegyor-ndef)
-completions := $(wildcard share/completion/*)
-zsh_completions := $(wildcard share/zsh/*)
-fish_completions := $(wildcard share/fish/*)
+completions := $(wildcard packaging/share/completion/*)
+zsh_completions := $(wildcard packaging/share/zsh/*)
+fish_completions := $(wildcard packaging/share/fish/*)
 shared := -shared -Wl,-z,defs -Wl,-z,relro -Wl,-z,now
 whole = -Wl,--whole-archive $(1) -Wl,--no-whole-archive
 hwcaps := glibc-hwcaps/x86-64-v2
+comma := ,
+# The names of calls in release 0.3.0, for what is linked with it, where the library has others.
+old_calls = $(if $(filter ndef_default_limits,$(calls)),$(patsubst %,-Wl$(comma)--defsym=%,$(shell sed '/^\#/d' packaging/old_calls)))
 fill = umask 022 && packaging/fill PREFIX=$(PREFIX) LIBDIR=$(LIBDIR) VERSION=$(VERSION) ABI=$(ABI) PACKAGE_INIT= \
     INCLUDE=$(shell realpath -m --relative-to=$(LIBDIR) $(PREFIX)/include)
 # The machine of the C compiler.
 machine := $(or $(shell $(CC) -dumpmachine 2>/dev/null),$(shell uname -m))
 CROSS_CC ?= aarch64-linux-gnu-gcc
 
-# What all is made of: the programs, the headers for C with the description of the interface, and the archives, one for
+# What all is made of: the program, the headers for C with the description of the interface, and the archives, one for
 # every x86-64 and on x86-64 a faster one. Releases before 0.3.0 have no description.
 ifeq ($(NDEF_FROM),dist)
-made_programs := $(addprefix out/dist/,$(commands))
+made_program := out/dist/ndef
 made_archive := out/dist/libndef.a
 made_faster := $(if $(filter-out %x32,$(filter x86_64% amd64%,$(machine))),out/dist/libndef-v2.a)
 header := dist/ndef.h
 description := $(wildcard dist/interface.json)
 else
-made_programs := $(addprefix out/commands/,ndef ndef_make ndef_explain)
+made_program := out/commands/ndef
 made_archive := crates/ndef_c/out/libndef_c.a
 made_faster := out/x86-64-v2/libndef.a
 header := include/ndef.h
-description := share/interface.json
+description := packaging/share/interface.json
 endif
 headers := $(wildcard $(dir $(header))ndef*.h include/ndef*.hpp)
 faster := $(if $(made_faster),out/lib/libndef-v2.a)
@@ -115,7 +120,7 @@ proved := ndef_c
 all: cost out/$(TARGET)/libndef.a out/$(TARGET)/libndef.so
 	cp $(wildcard $(dir $(header))ndef*.h) out/$(TARGET)
 else
-proved := ndef ndef_make ndef_explain ndef_c
+proved := ndef_commands ndef_c
 all: cost programs library python
 endif
 
@@ -125,7 +130,7 @@ cost:
 
 programs: out/bin/ndef
 library: out/lib/libndef.a $(faster) $(library) $(faster_library)
-python: $(module)/libndef.so $(patsubst python/%,out/python/%,$(modules)) out/python/$(module_data)/METADATA
+python: $(module)/libndef.so $(patsubst bindings/%,out/%,$(modules)) out/python/$(module_data)/METADATA
 
 prove:
 	$(MAKE) NDEF_FROM=crates all
@@ -144,7 +149,7 @@ out/from: FORCE
 FORCE:
 
 ifeq ($(NDEF_FROM),dist)
-out/dist/ndef out/dist/ndef-make out/dist/ndef-explain &: $(wildcard dist/SOURCE dist/commands* dist/runtime.c)
+out/dist/ndef: $(wildcard dist/SOURCE dist/commands* dist/runtime.c)
 	packaging/from_dist commands
 
 out/dist/libndef.a: dist/ndef.c
@@ -159,26 +164,17 @@ out/aarch64-linux/libndef.a: dist/ndef.c out/from
 dist/ndef.c dist/ndef.h:
 	packaging/from_dist version
 else
-below_c := ndef_format ndef_value ndef_piece ndef_lang ndef_nest ndef_message ndef_types ndef_fields ndef_advice ndef_c
+below_c := ndef_format ndef_value ndef_piece ndef_lang ndef_nest ndef_message ndef_types ndef_fields ndef_diagnostics ndef_c
 sources = $(shell find $(foreach crate,$(1),$(wildcard $(addprefix crates/$(crate)/,src specs proofs))) -type f)
 every_source := crates.txt $(call sources,$(notdir $(wildcard crates/*)))
 
-# The scripts prove and build their programs where those are older than the sources.
-crates/ndef/out/ndef: $(every_source)
+# The script proves and builds the program where that is older than the sources.
+crates/ndef_commands/out/ndef_commands: $(every_source)
 	./ndef --prove encode </dev/null
 
-crates/ndef_make/out/ndef_make: $(every_source)
-	./ndef-make --prove record --tnf 0 </dev/null >/dev/null
-
-crates/ndef_explain/out/ndef_explain: $(every_source)
-	./ndef-explain --prove </dev/null
-
-# The same with the code for two processors, over the crates that the lines above proved.
-out/commands/ndef: crates/ndef/out/ndef
-out/commands/ndef_make: crates/ndef_make/out/ndef_make
-out/commands/ndef_explain: crates/ndef_explain/out/ndef_explain
-$(made_programs): packaging/command packaging/choose_main.c packaging/has_v2.h
-	packaging/command $(@F) $@
+# The same with the code for two processors, over the crates that the line above proved.
+out/commands/ndef: crates/ndef_commands/out/ndef_commands packaging/command packaging/choose_main.c packaging/has_v2.h
+	packaging/command ndef_commands $@
 
 crates/ndef_c/out/libndef_c.a: crates.txt $(call sources,$(below_c))
 	cd crates/ndef_c && rt lib --cpu x86-64
@@ -189,12 +185,11 @@ out/%/libndef.a: $(made_archive) packaging/library
 	packaging/library $*
 endif
 
-# The commands of dist/ are one program with two links to it.
-out/bin/ndef: $(made_programs) out/from
+# The commands are one program with two links to it.
+out/bin/ndef: $(made_program) out/from
 	mkdir -p $(@D)
 	rm -f $(addprefix $(@D)/,$(commands))
-	cp -P $(word 2,$(made_programs)) $(@D)/ndef-make
-	cp -P $(word 3,$(made_programs)) $(@D)/ndef-explain
+	for link in $(links); do ln -s ndef $(@D)/$$link || exit; done
 	cp $< $@
 
 out/lib/libndef.a: $(made_archive) $(made_faster) $(wildcard packaging/both packaging/choose.c packaging/has_v2.h) out/from
@@ -207,9 +202,9 @@ out/lib/libndef-v2.a: $(made_faster) out/from
 
 $(library): $(made_archive)
 $(faster_library): $(made_faster)
-$(library) $(faster_library): packaging/libsimbegyor-ndef.map out/from
+$(library) $(faster_library): packaging/libsimbegyor-ndef.map packaging/old_calls out/from
 	mkdir -p $(@D)
-	$(CC) $(LDFLAGS) $(shared) -Wl,--version-script=packaging/libsimbegyor-ndef.map \
+	$(CC) $(LDFLAGS) $(shared) -Wl,--version-script=packaging/libsimbegyor-ndef.map $(old_calls) \
 	    -Wl,-soname,libsimbegyor-ndef.so.$(ABI) -o $@ $(call whole,$(filter %.a,$^))
 
 out/aarch64-linux/libndef.so: out/aarch64-linux/libndef.a packaging/ndef.map
@@ -217,13 +212,13 @@ out/aarch64-linux/libndef.so: out/aarch64-linux/libndef.a packaging/ndef.map
 
 # Of dist/ it takes the module for WebAssembly, and no archive.
 web: $(if $(filter crates,$(NDEF_FROM)),$(made_archive))
-	web/build
+	bindings/web/build
 
 npm:
 	packaging/make_npm out/simbegyor-ndef-$(npm_version).tgz
 	@echo out/simbegyor-ndef-$(npm_version).tgz
 
-out/python/%: python/% VERSION $(wildcard dist/SOURCE) out/from
+out/python/%: bindings/python/% VERSION $(wildcard dist/SOURCE) out/from
 	mkdir -p $(@D)
 	packaging/fill VERSION=$(python_version) <$< >$@
 
@@ -232,23 +227,23 @@ $(module)/libndef.so: out/lib/libndef.a packaging/ndef.map
 	$(CC) $(LDFLAGS) $(shared) -Wl,--version-script=packaging/ndef.map -o $@ $(call whole,$<)
 
 wheel: library
-	cd python && NDEF_LIB_DIR=../out/lib $(PYTHON) -B -c 'import backend; print("out/" + backend.build_wheel("../out"))'
+	cd bindings/python && NDEF_LIB_DIR=../../out/lib $(PYTHON) -B -c 'import backend; print("out/" + backend.build_wheel("../../out"))'
 
 sdist:
-	cd python && $(PYTHON) -B -c 'import backend; print("out/" + backend.build_sdist("../out"))'
+	cd bindings/python && $(PYTHON) -B -c 'import backend; print("out/" + backend.build_sdist("../../out"))'
 
 java: out/java/simbegyor-ndef.jar
 
-out/java/simbegyor-ndef.jar: out/lib/libndef.a java/build VERSION $(shell find java/annotations java/native java/src -type f)
-	NDEF_VERSION=$(VERSION) java/build $< $(dir $(header))
+out/java/simbegyor-ndef.jar: out/lib/libndef.a bindings/java/build VERSION $(shell find bindings/java/annotations bindings/java/native bindings/java/src -type f)
+	NDEF_VERSION=$(VERSION) bindings/java/build $< $(dir $(header))
 
 # What pip and importlib.metadata know of the module.
-out/python/$(module_data)/METADATA: python/METADATA.in python/README.md VERSION $(wildcard dist/SOURCE) out/from
+out/python/$(module_data)/METADATA: bindings/python/METADATA.in bindings/python/README.md VERSION $(wildcard dist/SOURCE) out/from
 	rm -rf out/python/simbegyor_ndef-*.dist-info
 	mkdir -p $(@D)/licenses
 	cp LICENSE-MIT LICENSE-APACHE $(@D)/licenses
 	echo 'make install' >$(@D)/INSTALLER
-	{ packaging/fill VERSION=$(python_version) <python/METADATA.in && echo && cat python/README.md; } >$@
+	{ packaging/fill VERSION=$(python_version) <bindings/python/METADATA.in && echo && cat bindings/python/README.md; } >$@
 
 out/man3/simbegyor-ndef.3: $(header) packaging/man3 VERSION CHANGELOG.md out/from
 	rm -rf out/man3
@@ -260,11 +255,8 @@ install-programs: programs
 	install -d $(addprefix $(DESTDIR)$(PREFIX)/,bin share/man/man1 share/bash-completion/completions share/zsh/site-functions \
 	    share/fish/vendor_completions.d)
 	install -m 755 out/bin/ndef $(DESTDIR)$(PREFIX)/bin
-	for command in ndef-make ndef-explain; do \
-	    if [ -L out/bin/$$command ]; then ln -sf ndef $(DESTDIR)$(PREFIX)/bin/$$command; \
-	    else install -m 755 out/bin/$$command $(DESTDIR)$(PREFIX)/bin; fi || exit; \
-	done
-	umask 022; for page in $(notdir $(pages)); do packaging/fill VERSION=$(VERSION) <man/$$page >$(DESTDIR)$(PREFIX)/share/man/man1/$$page || exit; done
+	for link in $(links); do ln -sf ndef $(DESTDIR)$(PREFIX)/bin/$$link || exit; done
+	umask 022; for page in $(notdir $(pages)); do packaging/fill VERSION=$(VERSION) <packaging/man/$$page >$(DESTDIR)$(PREFIX)/share/man/man1/$$page || exit; done
 	install -m 644 $(completions) $(DESTDIR)$(PREFIX)/share/bash-completion/completions
 	install -m 644 $(zsh_completions) $(DESTDIR)$(PREFIX)/share/zsh/site-functions
 	install -m 644 $(fish_completions) $(DESTDIR)$(PREFIX)/share/fish/vendor_completions.d
@@ -290,7 +282,7 @@ install-library: library out/man3/simbegyor-ndef.3
 
 install-python: python
 	install -d $(addprefix $(DESTDIR)$(PYTHONDIR)/,simbegyor_ndef $(module_data)/licenses)
-	install -m 644 $(addprefix out/,$(modules)) $(module)/libndef.so $(DESTDIR)$(PYTHONDIR)/simbegyor_ndef
+	install -m 644 $(patsubst bindings/%,out/%,$(modules)) $(module)/libndef.so $(DESTDIR)$(PYTHONDIR)/simbegyor_ndef
 	install -m 644 $(addprefix out/python/$(module_data)/,METADATA INSTALLER) $(DESTDIR)$(PYTHONDIR)/$(module_data)
 	install -m 644 LICENSE-MIT LICENSE-APACHE $(DESTDIR)$(PYTHONDIR)/$(module_data)/licenses
 	@$(if $(DESTDIR),,packaging/python_told $(PYTHON) $(PYTHONDIR))
@@ -324,6 +316,8 @@ amalgamation:
 	cd out/amalgamation && sha256sum ndef.c ndef*.h | tee SHA256SUMS
 
 dist:
+	packaging/public_names --check
+	packaging/frozen
 	ports/dist dist
 	packaging/go_library
 

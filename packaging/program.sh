@@ -97,14 +97,14 @@ interrupted() {
     exit 3
 }
 
-# Proves and builds the program. `rt run` runs it too, with the words given.
+# Proves and builds the program. `rt run` runs it too, with words with which it ends well without standard input.
 build() {
     local log begun=$SECONDS
     needs_rt 'the first run'
     say_cost 'the program'
     log=$(mktemp)
     trap interrupted INT TERM
-    if ! (cd "$top/crates/${crates[-1]}" && rt run --cpu x86-64 -- "$@" </dev/null 2>&1) | tee "$log" | progress; then
+    if ! (cd "$top/crates/${crates[-1]}" && rt run --cpu x86-64 -- ndef encode </dev/null 2>&1) | tee "$log" | progress; then
         cat "$log" >&2
         rm -f "$log"
         exit 3
@@ -115,7 +115,7 @@ build() {
     say "proved and built in $(((SECONDS - begun) / 60)) minutes $(((SECONDS - begun) % 60)) seconds"
 }
 
-# Runs the program as it is, and proves nothing. `rt` runs it in a folder of its own. So each word that names a file here, by a name that can
+# Runs the program as it is under its name, and proves nothing. `rt` runs it in a folder of its own. So each word that names a file here, by a name that can
 # stand there, is given to it as that file.
 run_unproved() {
     local log status word files=()
@@ -128,7 +128,7 @@ run_unproved() {
         esac
     done
     log=$(mktemp)
-    (cd "$top/crates/${crates[-1]}" && rt try "${files[@]}" -- "$@") 2>"$log"
+    (cd "$top/crates/${crates[-1]}" && rt try "${files[@]}" -- "$name" "$@") 2>"$log"
     status=$?
     # `rt` says by these lines that the program ended by itself.
     grep -vE '^(checked: ended|run=ended)' "$log" >&2

@@ -1,8 +1,8 @@
 # shellcheck shell=sh disable=SC2154
 # The choice of the scripts `ndef`, `ndef-make` and `ndef-explain`, in plain sh: each runs the program of its name.
 # That is the one that was proved here, where that was done and the sources haven't changed since; else the one of
-# dist/, which is compiled first. The scripts set `top`, the folder of the repository, `name`, that of the program,
-# and `crate`, the crate of the program.
+# dist/, which is compiled first. The scripts set `top`, the folder of the repository, and `name`, that of the program.
+# What was proved is one program, which is given the name before the other words.
 
 . "$top/packaging/dist.sh"
 
@@ -23,10 +23,10 @@ run_from_dist() {
 
 # Runs the program with the words of the script but the first, where that is --try or --prove.
 run() {
-    program=$top/crates/$crate/out/$crate
-    if [ "$choice" ]; then exec bash "$top/packaging/by_rt" "$choice" "$name" "$crate" "$@"; fi
+    program=$top/crates/ndef_commands/out/ndef_commands
+    if [ "$choice" ]; then exec bash "$top/packaging/by_rt" "$choice" "$name" ndef_commands "$@"; fi
     [ -x "$program" ] || run_from_dist '' "$@"
-    if bash "$top/packaging/by_rt" is-proved "$name" "$crate"; then exec "$program" "$@"; fi
+    if bash "$top/packaging/by_rt" is-proved "$name" ndef_commands; then exec "$program" "$name" "$@"; fi
     run_from_dist 'crates/ has changed since it was proved here; ' "$@"
 }
 

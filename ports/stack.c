@@ -8,7 +8,7 @@ void answers(void);
 
 enum { DEEP = 16000, MOST = 1 << 16, PAINT = 0xa5, ELEMENTS = 4096 };
 
-static uint8_t bytes[MOST], payload[MOST], room[2 * MOST];
+static uint8_t bytes[MOST], payload[MOST], buffer[2 * MOST];
 static const uint8_t *given;
 static ndef_size given_length, count;
 static ndef_limits limits;
@@ -33,18 +33,18 @@ static void nothing(void) {}
 static void check(void) { ndef_check(given, given_length, &limits, &out); }
 static void begin(void) { ndef_begin(&limits, &checker); }
 static void feed(void) { ndef_feed(&checker, given, given_length, &out); }
-static void why(void) { ndef_why(given, given_length, &limits, room, sizeof room, &count); }
-static void hint(void) { ndef_hint(given, given_length, &limits, room, sizeof room, &count); }
+static void refusal_message(void) { ndef_refusal_message(given, given_length, &limits, buffer, sizeof buffer, &count); }
+static void hint(void) { ndef_hint(given, given_length, &limits, buffer, sizeof buffer, &count); }
 static void record_at(void) { static ndef_record to; ndef_record_at(given, given_length, 0, &to); }
 static void kind(void) {
     static ndef_record of;
     of.tnf = NDEF_TNF_WELL_KNOWN, of.type_length = type_lengths[flags];
     ndef_kind((const uint8_t *)types[flags], type_lengths[flags], &of, NDEF_KIND_OTHER);
 }
-static void payload_of(void) { ndef_payload(given, given_length, 0, room, sizeof room, &count); }
-static void uri(void) { ndef_uri(given, given_length, flags & 1, room, sizeof room, &count, &out); }
+static void payload_of(void) { ndef_payload(given, given_length, 0, buffer, sizeof buffer, &count); }
+static void uri(void) { ndef_uri(given, given_length, flags & 1, buffer, sizeof buffer, &count, &out); }
 static void text(void) { static ndef_text_parts to; ndef_text(given, given_length, &to, &out); }
-static void text_in_utf8(void) { ndef_text_in_utf8(given, given_length, room, sizeof room, &count, &out); }
+static void text_in_utf8(void) { ndef_text_in_utf8(given, given_length, buffer, sizeof buffer, &count, &out); }
 static void carrier(void) { static ndef_carrier_parts to; ndef_carrier(given, given_length, &to, &out); }
 static void alternative(void) { static ndef_alternative_parts to; ndef_alternative(given, given_length, &to, &out); }
 static void reference(void) { static ndef_part to; ndef_reference(given, given_length, 0, &to); }
@@ -56,24 +56,24 @@ static void error(void) { static ndef_error_parts to; ndef_error(given, given_le
 static void write_record(void) {
     static ndef_writing how;
     how.tnf = NDEF_TNF_WELL_KNOWN, how.flags = flags, how.chunk = flags & 1 ? 3 : 0;
-    ndef_write_record((const uint8_t *)"T", 1, given, 0, given, given_length, &how, room, sizeof room, &count);
+    ndef_write_record((const uint8_t *)"T", 1, given, 0, given, given_length, &how, buffer, sizeof buffer, &count);
 }
-static void write_uri(void) { ndef_write_uri(given, given_length, room, sizeof room, &count); }
-static void write_text(void) { ndef_write_text((const uint8_t *)"en", 2, given, given_length, flags & 1, room, sizeof room, &count); }
-static void write_carrier(void) { ndef_write_carrier(1, given, given_length & 255, given, given_length, room, sizeof room, &count); }
-static void write_alternative(void) { ndef_write_alternative(1, given, given_length, parts, 2, room, sizeof room, &count); }
-static void write_error(void) { ndef_write_error(4, given, given_length, room, sizeof room, &count); }
-static void write_error_number(void) { ndef_write_error_number(2, 7, room, sizeof room, &count); }
-static void write_handover(void) { ndef_write_handover(flags & 1, 1, 2, given, given_length, room, sizeof room, &count); }
-static void write_action(void) { ndef_write_action(7, room, sizeof room, &count); }
-static void write_size(void) { ndef_write_size(7, room, sizeof room, &count); }
-static void write_collision(void) { ndef_write_collision(7, room, sizeof room, &count); }
-static void reason_name(void) { ndef_reason_name(flags, room, sizeof room, &count); }
-static void reason_sentence(void) { ndef_reason_sentence(flags, room, sizeof room, &count); }
-static void usual_limits(void) { static ndef_limits to; ndef_usual_limits(&to); }
+static void write_uri(void) { ndef_write_uri(given, given_length, buffer, sizeof buffer, &count); }
+static void write_text(void) { ndef_write_text((const uint8_t *)"en", 2, given, given_length, flags & 1, buffer, sizeof buffer, &count); }
+static void write_carrier(void) { ndef_write_carrier(1, given, given_length & 255, given, given_length, buffer, sizeof buffer, &count); }
+static void write_alternative(void) { ndef_write_alternative(1, given, given_length, parts, 2, buffer, sizeof buffer, &count); }
+static void write_error(void) { ndef_write_error(4, given, given_length, buffer, sizeof buffer, &count); }
+static void write_error_number(void) { ndef_write_error_number(2, 7, buffer, sizeof buffer, &count); }
+static void write_handover(void) { ndef_write_handover(flags & 1, 1, 2, given, given_length, buffer, sizeof buffer, &count); }
+static void write_action(void) { ndef_write_action(7, buffer, sizeof buffer, &count); }
+static void write_size(void) { ndef_write_size(7, buffer, sizeof buffer, &count); }
+static void write_collision(void) { ndef_write_collision(7, buffer, sizeof buffer, &count); }
+static void reason_name(void) { ndef_reason_name(flags, buffer, sizeof buffer, &count); }
+static void reason_sentence(void) { ndef_reason_sentence(flags, buffer, sizeof buffer, &count); }
+static void default_limits(void) { static ndef_limits to; ndef_default_limits(&to); }
 static void version(void) { ndef_version(); }
-static void status_name(void) { ndef_status_name(flags, room, sizeof room, &count); }
-static void pieces(void) { ndef_pieces(given, given_length, 0, array.parts, ELEMENTS, &count); }
+static void status_name(void) { ndef_status_name(flags, buffer, sizeof buffer, &count); }
+static void chunks(void) { ndef_chunks(given, given_length, 0, array.parts, ELEMENTS, &count); }
 static void references(void) { ndef_references(given, given_length, array.parts, ELEMENTS, &count); }
 static void links(void) { ndef_links(bytes, given_length, given, given_length, array.links, ELEMENTS, &count); }
 static void find_type(void) { static ndef_record to; ndef_find_type(given, given_length, 0, 1, (const uint8_t *)"none", 4, &to); }
@@ -88,39 +88,39 @@ static void payload_fields(void) {
     ndef_payload_fields(1, (const uint8_t *)types[flags], type_lengths[flags], given, given_length,
                         array.fields, ELEMENTS, &count);
 }
-static void field_name(void) { ndef_field_name(flags, room, sizeof room, &count); }
+static void field_name(void) { ndef_field_name(flags, buffer, sizeof buffer, &count); }
 /* All bytes given, or the first of them, as each field. */
-static void field_remark(void) {
+static void field_warning(void) {
     for (uint32_t name = NDEF_FIELD_HEADER; name <= NDEF_FIELD_CARRIER_DATA; name++)
-        ndef_field_remark(name, given, flags & 1 && given_length ? 1 : given_length, room, sizeof room, &count);
+        ndef_field_warning(name, given, flags & 1 && given_length ? 1 : given_length, buffer, sizeof buffer, &count);
 }
-static void record_remark(void) { ndef_record_remark(given, given_length, flags, room, sizeof room, &count); }
-static void uri_view(void) { static ndef_uri_parts to; ndef_uri_view(given, given_length, flags & 1, &to, &out); }
-static void uri_prefix(void) { ndef_uri_prefix(flags, room, sizeof room, &count); }
+static void record_warning(void) { ndef_record_warning(given, given_length, flags, buffer, sizeof buffer, &count); }
+static void split_uri(void) { static ndef_uri_parts to; ndef_split_uri(given, given_length, flags & 1, &to, &out); }
+static void uri_prefix(void) { ndef_uri_prefix(flags, buffer, sizeof buffer, &count); }
 static void append(void) {
-    static const ndef_built none;
+    static const ndef_message_builder none;
     static const ndef_writing how = { NDEF_TNF_WELL_KNOWN, 0, 3 };
-    static ndef_built built;
+    static ndef_message_builder built;
     built = none;
-    ndef_append(&built, (const uint8_t *)"T", 1, given, 0, given, given_length, &how, room, sizeof room, &count);
+    ndef_append(&built, (const uint8_t *)"T", 1, given, 0, given, given_length, &how, buffer, sizeof buffer, &count);
 }
 static void append_text(void) {
-    static const ndef_built none;
-    static ndef_built built;
+    static const ndef_message_builder none;
+    static ndef_message_builder built;
     built = none;
-    ndef_append_text(&built, given, 0, (const uint8_t *)"en", 2, given, given_length, flags & 1, room, sizeof room, &count);
+    ndef_append_text(&built, given, 0, (const uint8_t *)"en", 2, given, given_length, flags & 1, buffer, sizeof buffer, &count);
 }
 static void append_uri(void) {
-    static const ndef_built none;
-    static ndef_built built;
+    static const ndef_message_builder none;
+    static ndef_message_builder built;
     built = none;
-    ndef_append_uri(&built, given, 0, given, given_length, room, sizeof room, &count);
+    ndef_append_uri(&built, given, 0, given, given_length, buffer, sizeof buffer, &count);
 }
 static void poster_titles(void) { ndef_poster_titles(given, given_length, array.titles, ELEMENTS, &count); }
 static void title(void) { static ndef_text_parts to; ndef_title(given, given_length, (const uint8_t *)"en", 2, &to); }
 static void poster_media_type(void) { static ndef_part to; ndef_poster_media_type(given, given_length, &to); }
 static void poster_icons(void) { ndef_poster_icons(given, given_length, array.icons, ELEMENTS, &count); }
-static void rewrite(void) { ndef_rewrite(given, given_length, flags & 1 ? NDEF_WRITE_LONG : 0, room, sizeof room, &count); }
+static void normalize(void) { ndef_normalize(given, given_length, flags & 1 ? NDEF_WRITE_LONG : 0, buffer, sizeof buffer, &count); }
 static void write_poster(void) {
     static ndef_poster_writing how = { { 0, 0 }, { 0, 0 }, 1, 1, 2, 1, 7 };
     static ndef_title_writing told;
@@ -128,15 +128,15 @@ static void write_poster(void) {
     how.uri.length = told.text.length = icon.data.length = given_length;
     told.utf16 = flags & 1;
     icon.media_type.length = given_length < 9 ? given_length : 9;
-    ndef_write_poster(given, given_length, &how, &told, 1, &icon, 1, room, sizeof room, &count);
+    ndef_write_poster(given, given_length, &how, &told, 1, &icon, 1, buffer, sizeof buffer, &count);
 }
 static void write_request(void) {
-    ndef_write_request(2, 7, given, given_length, parts, 2, alternatives, 2, room, sizeof room, &count);
+    ndef_write_request(2, 7, given, given_length, parts, 2, alternatives, 2, buffer, sizeof buffer, &count);
 }
 static void write_select(void) {
     static ndef_select_writing how = { { 0, 0 }, 2, 1, 4 };
     how.data.length = given_length;
-    ndef_write_select(&how, given, given_length, parts, 2, alternatives, 2, room, sizeof room, &count);
+    ndef_write_select(&how, given, given_length, parts, 2, alternatives, 2, buffer, sizeof buffer, &count);
 }
 #if NDEF_VERSION_MAJOR > 0 || NDEF_VERSION_MINOR >= 4
 static ndef_writer writer;
@@ -144,26 +144,26 @@ static const ndef_writing in_chunks = { NDEF_TNF_WELL_KNOWN, 0, 3 };
 static void writer_begin(void) { ndef_writer_begin(&writer, 1, 0, given_length, &in_chunks); }
 /* The call before this one began the record. */
 static void writer_next(void) {
-    ndef_writer_next(&writer, (const uint8_t *)"T", 1, given, 0, given, given_length, room, sizeof room, &count);
+    ndef_writer_next(&writer, (const uint8_t *)"T", 1, given, 0, given, given_length, buffer, sizeof buffer, &count);
 }
 #endif
 
 #define CALL(name) { "ndef_" #name, name, 0 }
 static struct call { const char *name; void (*make)(void); unsigned most; } calls[] = {
-    { "", nothing, 0 }, CALL(check), CALL(begin), CALL(feed), CALL(why), CALL(hint), CALL(record_at), CALL(kind),
-    { "ndef_payload", payload_of, 0 }, CALL(pieces), CALL(find_type), CALL(find_id), CALL(fields), CALL(field_at),
-    CALL(next_field), CALL(payload_fields), CALL(field_remark), CALL(record_remark), CALL(uri), CALL(uri_view),
+    { "", nothing, 0 }, CALL(check), CALL(begin), CALL(feed), CALL(refusal_message), CALL(hint), CALL(record_at), CALL(kind),
+    { "ndef_payload", payload_of, 0 }, CALL(chunks), CALL(find_type), CALL(find_id), CALL(fields), CALL(field_at),
+    CALL(next_field), CALL(payload_fields), CALL(field_warning), CALL(record_warning), CALL(uri), CALL(split_uri),
     CALL(uri_prefix), CALL(text), CALL(text_in_utf8), CALL(carrier), CALL(alternative), CALL(reference), CALL(references),
     CALL(request), { "ndef_select", select_of, 0 }, CALL(link_at), CALL(links), CALL(poster), CALL(poster_titles), CALL(title),
     CALL(poster_media_type), CALL(poster_icons), CALL(error), CALL(write_record), CALL(write_uri), CALL(write_text),
     CALL(write_carrier), CALL(write_alternative), CALL(write_error), CALL(write_error_number), CALL(write_handover),
     CALL(write_action), CALL(write_size), CALL(write_collision), CALL(write_poster), CALL(write_request), CALL(write_select),
-    CALL(append), CALL(append_text), CALL(append_uri), CALL(rewrite),
+    CALL(append), CALL(append_text), CALL(append_uri), CALL(normalize),
 #if NDEF_VERSION_MAJOR > 0 || NDEF_VERSION_MINOR >= 4
     CALL(writer_begin), CALL(writer_next),
 #endif
     CALL(reason_name), CALL(reason_sentence),
-    CALL(field_name), CALL(status_name), CALL(version), CALL(usual_limits)
+    CALL(field_name), CALL(status_name), CALL(version), CALL(default_limits)
 };
 enum { CALLS = sizeof calls / sizeof *calls };
 
@@ -192,7 +192,7 @@ static void measure_all(const uint8_t *at, ndef_size length) {
     given = at;
     given_length = length;
     for (flags = 0; flags < 4; flags++) {
-        ndef_usual_limits(&limits);
+        ndef_default_limits(&limits);
         limits.flags = flags;
         ndef_begin(&limits, &checker);
         for (int i = 0; i < CALLS; i++) measure(&calls[i]);

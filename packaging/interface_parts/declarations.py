@@ -15,7 +15,7 @@ ROW = 112
 
 
 def named(parameters: Sequence[Parameter]) -> List[Parameter]:
-    """The parameters, each with a name. A length is `size` for a room, `length` for the only array of bytes or the one called `bytes`,
+    """The parameters, each with a name. A length is `capacity` for a buffer, `length` for the only array of bytes or the one called `bytes`,
     and else it has the name of its array."""
     octets = [one for one in parameters if one.role == 'array' and 'uint8_t' in one.type]
     made: List[Parameter] = []
@@ -24,8 +24,8 @@ def named(parameters: Sequence[Parameter]) -> List[Parameter]:
             made.append(one)
             continue
         array = made[-1]
-        if array.role == 'room':
-            name = 'size'
+        if array.role == 'buffer':
+            name = 'capacity'
         elif array not in octets:
             name = array.name + '_count'
         else:

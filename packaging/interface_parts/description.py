@@ -34,7 +34,7 @@ def call(given: Call, interface: Interface) -> Dict[str, Any]:
     parameters: List[Dict[str, Any]] = []
     for at, parameter in enumerate(given.parameters):
         made = {'name': parameter.name, 'type': parameter.type, 'role': parameter.role}
-        if parameter.role in ('array', 'room'):
+        if parameter.role in ('array', 'buffer'):
             made['length'] = given.parameters[at + 1].name
         parameters.append(made)
     answers = [name for name in statuses(interface) if re.search(rf'\b{name}\b', comment)]

@@ -9,7 +9,7 @@ from . import layout
 from .model import MARK, Group, Interface, Parameter, Struct
 
 WIDTH = 132
-PATH = 'web/interface.js'
+PATH = 'bindings/web/interface.js'
 # The enums that the script needs, and the names of the tables.
 TABLES = {'ndef_status': ('STATUS', 'NDEF_'), 'ndef_hint_number': ('HINT', 'NDEF_HINT_'), 'ndef_kinds': ('KIND', 'NDEF_KIND_')}
 

@@ -26,6 +26,11 @@ Reference = Any
 '''
 
 CALLS = '''
+# The names of calls in release 0.3.0, where they are others.
+OLD_NAMES = {
+    'default_limits': 'usual_limits', 'refusal_message': 'why', 'field_warning': 'field_remark', 'record_warning': 'record_remark',
+}
+
 
 class _Loaded:
     """The calls of a library that ctypes has loaded, each looked up when it is first asked for."""
@@ -34,7 +39,12 @@ class _Loaded:
         self._loaded = loaded
 
     def __getattr__(self, name: str) -> Any:
-        call = getattr(self._loaded, 'ndef_' + name)
+        try:
+            call = getattr(self._loaded, 'ndef_' + name)
+        except AttributeError:
+            if name not in OLD_NAMES:
+                raise
+            call = getattr(self._loaded, 'ndef_' + OLD_NAMES[name])
         call.restype = None if name in WITHOUT_RESULT else u32
         setattr(self, name, call)
         return call

@@ -31,7 +31,7 @@ WORDS = {
     'NdefIcon.octets': 'data', 'NdefIconWriting.octets': 'data', 'NdefSelectWriting.detail': 'data',
 }
 # What a call writes whatever it held, by its name: the header says so of these.
-WRITTEN = ('out', 'count', 'why')
+WRITTEN = ('out', 'count', 'refusal')
 # Flags: the code has no names for them, but tests their bits.
 FLAGS = {
     'NDEF_STANDARD': (1, 'Read reserved values as the standards say.'),
@@ -90,7 +90,7 @@ class Crates:
                 continue
             pointer = f'{"" if found[1] else "const "}{self.type_of(found[3], where)} *'
             if found[2]:
-                made += [Parameter(name, pointer, 'room' if found[1] else 'array'), Parameter('', 'ndef_size', 'length')]
+                made += [Parameter(name, pointer, 'buffer' if found[1] else 'array'), Parameter('', 'ndef_size', 'length')]
             else:
                 fresh = name in WRITTEN or f'room_at NdefCheckers.the_row {name}' in contract
                 made.append(Parameter(name, pointer, 'in' if not found[1] else 'out' if fresh else 'change'))

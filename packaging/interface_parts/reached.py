@@ -9,15 +9,15 @@ from .model import MARK, TOP, Interface, Unknown
 
 PATH = 'docs/BINDINGS.md'
 BEGIN, END = f'<!-- {MARK} -->\n', '<!-- the end of what is generated -->\n'
-LIBRARY = 'python/simbegyor_ndef/_library.py'
+LIBRARY = 'bindings/python/simbegyor_ndef/_library.py'
 # Where each face makes its calls by their names in C.
 SOURCES = {
     'C++': ('include/*.hpp',),
     'Python': (LIBRARY,),
-    'Rust': ('rust/src/calls.rs',),
-    'JavaScript': ('web/ndef.js',),
-    'Java': ('java/native/ndef_jni.c',),
-    'Go': ('go/*.go', 'go/calls.h'),
+    'Rust': ('bindings/rust/src/calls.rs',),
+    'JavaScript': ('bindings/web/ndef.js',),
+    'Java': ('bindings/java/native/ndef_jni.c',),
+    'Go': ('bindings/go/*.go', 'bindings/go/calls.h'),
 }
 WHOLE = 'write_poster write_request write_select'
 POSTER = 'poster_titles title poster_media_type poster_icons'
@@ -31,12 +31,12 @@ REASONS: Tuple[Tuple[str, Dict[str, str]], ...] = (
     ('It walks the records itself: what is looked for is picked of them.', {
         'C++': 'poster_titles poster_icons', 'Python': 'find_type find_id ' + POSTER, 'Rust': 'find_type link_at links ' + POSTER,
         'JavaScript': 'find_type find_id title', 'Java': 'find_type find_id poster_titles', 'Go': 'find_type find_id poster_titles title'}),
-    ('The file ndef.hpp includes ndef.h: a program makes this call as in C.', {'C++': 'pieces payload_fields version uri_prefix'}),
+    ('The file ndef.hpp includes ndef.h: a program makes this call as in C.', {'C++': 'chunks payload_fields version uri_prefix'}),
     ('The file ndef_names.h has these texts, and they are taken from there.', {
         'C++': 'reason_name reason_sentence field_name status_name', 'Go': 'reason_name reason_sentence field_name'}),
     ('Its classes are those of ndeflib, which has nothing of the kind.', {'Python': 'kind links link_at'}),
     ('A payload is given with its chunks joined, and not where they lie.', {
-        'Python': 'pieces', 'JavaScript': 'pieces', 'Java': 'pieces', 'Go': 'pieces'}),
+        'Python': 'chunks', 'JavaScript': 'chunks', 'Java': 'chunks', 'Go': 'chunks'}),
     ('It gives the fields of messages alone.', {
         'Python': 'payload_fields', 'Rust': 'payload_fields', 'JavaScript': 'payload_fields', 'Java': 'payload_fields',
         'Go': 'payload_fields'}),
@@ -45,16 +45,16 @@ REASONS: Tuple[Tuple[str, Dict[str, str]], ...] = (
     ('The package has the version of the library that it brings or asks for.', {
         'Python': 'version', 'Rust': 'version', 'Java': 'version', 'Go': 'version'}),
     ('A URI is given whole, with its prefix spelled out.', {
-        'Python': 'uri_view', 'Rust': 'uri_view uri_prefix', 'JavaScript': 'uri_view', 'Java': 'uri_view'}),
+        'Python': 'split_uri', 'Rust': 'split_uri uri_prefix', 'JavaScript': 'split_uri', 'Java': 'split_uri'}),
     ('It puts a URI together of the prefix and the rest.', {'Go': 'uri'}),
     ('A message is written of all its records at once, into memory that grows.', {
         'Python': APPEND, 'Rust': APPEND, 'JavaScript': APPEND, 'Java': APPEND, 'Go': APPEND}),
     ('A message is written again by decoding it and encoding its records.', {
-        'Python': 'rewrite', 'Rust': 'rewrite', 'Java': 'rewrite', 'Go': 'rewrite'}),
+        'Python': 'normalize', 'Rust': 'normalize', 'Java': 'normalize', 'Go': 'normalize'}),
     ('Posters and handovers are written record by record.', {'Python': WHOLE, 'Rust': WHOLE, 'Java': WHOLE}),
     ('Posters and handovers are written whole, by one call each.', {
         'Go': 'write_alternative write_action write_size write_collision write_error write_error_number write_handover'}),
-    ('The class Limits has these numbers.', {'Java': 'usual_limits'}),
+    ('The class Limits has these numbers.', {'Java': 'default_limits'}),
     ('It asks for each record by itself, as the program takes it.', {
         face: 'items' for face in ('C++', 'Rust')}),
     ('A program checks the payloads of its own types itself.', {

@@ -4,7 +4,7 @@ from __future__ import annotations
 from .lexer import Tok, close, cut, is_code, lex, note, nxt, prv, report, txt
 
 CRATES = ["ndef_format", "ndef_value", "ndef_piece", "ndef_lang", "ndef_nest", "ndef_message", "ndef_types",
-          "ndef_fields", "ndef_advice", "ndef_building", "ndef_c"]
+          "ndef_fields", "ndef_diagnostics", "ndef_c"]
 # The module of the Rust crate that holds what is written.
 HOME = "proved"
 # Files over std's readers and writers: they need std, and their Rattle forms are those of Rattle's own std::io.

@@ -11,7 +11,9 @@ function __ndef_is
     test (count $words) -gt 1; and contains -- $words[2] $argv
 end
 
-complete -c ndef -f
+complete -c ndef -n __ndef_begins -f
+complete -c ndef -n __ndef_begins -l help -d 'Print a page of help'
+complete -c ndef -n __ndef_begins -l version -d 'Print the name and the version'
 complete -c ndef -n __ndef_begins -a show -d 'Print messages and their records'
 complete -c ndef -n __ndef_begins -a check -d 'Print where messages end, or what is refused'
 complete -c ndef -n __ndef_begins -a encode -d 'Write messages again'
