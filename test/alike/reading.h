@@ -1,6 +1,6 @@
 /* Reads all of a message by the library for C, and gives a hash of all that it answers: two builds that give the same hashes of the same
  * messages answer alike. What is read has no effect on the next message. */
-#include "ndef.h"
+#include "../c/since.h"
 
 enum { MOST_BYTES = 1 << 14, MOST_PARTS = 1 << 12 };
 
@@ -78,7 +78,7 @@ static void read_records(struct reader *to, const uint8_t *bytes, ndef_size leng
         ndef_size count = 0;
         if (ndef_record_at(bytes, length, record.end, &record) != NDEF_OK) return;
         const uint32_t kind = ndef_kind(bytes, length, &record, NDEF_KIND_OTHER);
-        mix(to, kind), mix(to, record.tnf), mix(to, record.pieces), mix(to, record.end), mix(to, record.payload_length);
+        mix(to, kind), mix(to, record.tnf), mix(to, record.chunks), mix(to, record.end), mix(to, record.payload_length);
         mix_bytes(to, bytes + record.type_at, record.type_length), mix_bytes(to, bytes + record.id_at, record.id_length);
         if (ndef_payload(bytes, length, record.at, to->payload, MOST_BYTES, &count) != NDEF_OK) continue;
         mix_bytes(to, to->payload, count);

@@ -2,15 +2,15 @@
  * hash of all that the calls answered and wrote. Two builds of the library that print the same lines answer alike.
  * `cases.h` is made by test/c/case_table. Without a C library (-ffreestanding), the caller has `put` and calls `answers`. */
 #include "ndef.h"
-#include "cases.h"
 #include "since.h"
+#include "cases.h"
 
 #ifndef ROUNDS
 #define ROUNDS 20000
 #endif
 
 enum { MOST = 1 << 17, MARKS = 8 };
-static uint8_t message[MOST], room[MOST], copy[MOST], payload[MOST];
+static uint8_t message[MOST], buffer[MOST], copy[MOST], payload[MOST];
 static uint64_t hash, calls;
 
 void put(const char *line, unsigned length);
@@ -40,16 +40,16 @@ static void mix_checked(const ndef_checked *checked) {
     mix(checked->reason);
 }
 
-/* A room of `size` bytes, and marks after it that no call may write. */
+/* A buffer of `size` bytes, and marks after it that no call may write. */
 static uint8_t *marked(ndef_size size) {
-    for (ndef_size i = 0; i < size + MARKS; i++) room[i] = 0xa5;
-    return room;
+    for (ndef_size i = 0; i < size + MARKS; i++) buffer[i] = 0xa5;
+    return buffer;
 }
 
 static void mix_room(uint32_t status, ndef_size size, ndef_size count) {
     mix_status(status);
     mix(count);
-    mix_bytes(room, size + MARKS);
+    mix_bytes(buffer, size + MARKS);
 }
 
 static void copy_bytes(uint8_t *to, const uint8_t *from, ndef_size length) {
@@ -58,7 +58,7 @@ static void copy_bytes(uint8_t *to, const uint8_t *from, ndef_size length) {
 
 /* ---- the calls */
 
-/* A call that writes to a room. */
+/* A call that writes to a buffer. */
 #define WRITTEN(size, call) do { ndef_size count = 77; uint8_t *to = marked(size); (void)to; \
     uint32_t status = (call); mix_room(status, size, count); } while (0)
 
@@ -132,20 +132,20 @@ static void write_from(const uint8_t *bytes, ndef_size length, ndef_size size) {
     }
 }
 
-static void mix_built(const ndef_built *built) { mix(built->length), mix(built->last_at), mix(built->records); }
+static void mix_built(const ndef_message_builder *built) { mix(built->length), mix(built->last_at), mix(built->records); }
 
 /* Appends two texts and a URI of the bytes to a message. */
 static void append_from(const uint8_t *bytes, ndef_size length, ndef_size size) {
-    ndef_built built = { 0, 0, 0 };
+    ndef_message_builder built = { 0, 0, 0 };
     const ndef_size two = length < 2 ? length : 2;
     ndef_size count = 77;
     marked(size);
     for (uint32_t flags = 0; flags < 3; flags++) {
-        mix_status(ndef_append_text(&built, bytes, length / 3, bytes, two, bytes, length, flags, room, size, &count));
+        mix_status(ndef_append_text(&built, bytes, length / 3, bytes, two, bytes, length, flags, buffer, size, &count));
         mix(count), mix_built(&built);
     }
-    mix_status(ndef_append_uri(&built, bytes, length % 5, bytes, length, room, size, &count));
-    mix(count), mix_built(&built), mix_bytes(room, size + MARKS);
+    mix_status(ndef_append_uri(&built, bytes, length % 5, bytes, length, buffer, size, &count));
+    mix(count), mix_built(&built), mix_bytes(buffer, size + MARKS);
 }
 
 /* The calls that fill an array: with none, with too small a one and with a large one. */
@@ -167,7 +167,7 @@ static void mix_parts(uint32_t status, ndef_size count) {
 static void fill_parts(const uint8_t *bytes, ndef_size length, ndef_size at) {
     for (int i = 0; i < 3; i++) {
         ndef_size count = 77;
-        uint32_t status = ndef_pieces(bytes, length, at, marked_parts(), sizes[i], &count);
+        uint32_t status = ndef_chunks(bytes, length, at, marked_parts(), sizes[i], &count);
         mix_parts(status, count);
         status = ndef_references(bytes, length, marked_parts(), sizes[i], &count);
         mix_parts(status, count);
@@ -207,10 +207,10 @@ static void fill_fields(const uint8_t *bytes, ndef_size length, const ndef_limit
 /* Why bytes are refused, what may help, and what is strange in fields and records. */
 #if IS_SINCE(0, 3)
 static void say_why(const uint8_t *bytes, ndef_size length, const ndef_limits *limits) {
-    WRITTEN(200, ndef_why(bytes, length, limits, to, 40 + 8 * (length % 20), &count));
+    WRITTEN(200, ndef_refusal_message(bytes, length, limits, to, 40 + 8 * (length % 20), &count));
     WRITTEN(200, ndef_hint(bytes, length, limits, to, 60 + 8 * (length % 20), &count));
-    WRITTEN(200, ndef_field_remark(length % 33, bytes, length, to, 40 + 8 * (length % 20), &count));
-    WRITTEN(200, ndef_record_remark(bytes, length, length % 3, to, 40 + 8 * (length % 20), &count));
+    WRITTEN(200, ndef_field_warning(length % 33, bytes, length, to, 40 + 8 * (length % 20), &count));
+    WRITTEN(200, ndef_record_warning(bytes, length, length % 3, to, 40 + 8 * (length % 20), &count));
 }
 #else
 static void say_why(const uint8_t *bytes, ndef_size length, const ndef_limits *limits) { (void)bytes, (void)length, (void)limits; }
@@ -238,7 +238,7 @@ static void list_records(const uint8_t *bytes, ndef_size length, const ndef_limi
         for (int k = 0; k < ELEMENTS; k++) {
             const ndef_item *it = items + k;
             mix(it->at), mix(it->end), mix(it->tnf), mix(it->kind), mix(it->type_at), mix(it->type_length), mix(it->id_length);
-            mix(it->payload_at), mix(it->payload_length), mix(it->pieces), mix(it->form), mix(it->number);
+            mix(it->payload_at), mix(it->payload_length), mix(it->chunks), mix(it->form), mix(it->number);
             mix(it->language_at), mix(it->language_length), mix(it->text_at), mix(it->text_length);
         }
     }
@@ -302,7 +302,7 @@ static void look_at_payload(const uint8_t *bytes, ndef_size length, ndef_size si
         ndef_checked why = { 77, 77, 77 };
         ndef_uri_parts uri = { 7, 7, 7 };
         read_with_flags(bytes, length, flags, size);
-        mix_status(ndef_uri_view(bytes, length, flags, &uri, &why));
+        mix_status(ndef_split_uri(bytes, length, flags, &uri, &why));
         mix(uri.rest_at), mix(uri.rest_length), mix(uri.code), mix_checked(&why);
     }
     fill_parts(bytes, length, 0);
@@ -323,7 +323,7 @@ static void follow_links(const uint8_t *bytes, ndef_size length, const uint8_t *
 
 static void mix_record(const ndef_record *record) {
     mix(record->at), mix(record->end), mix(record->type_at), mix(record->type_length), mix(record->id_at), mix(record->id_length);
-    mix(record->payload_at), mix(record->part_length), mix(record->payload_length), mix(record->pieces);
+    mix(record->payload_at), mix(record->part_length), mix(record->payload_length), mix(record->chunks);
     mix(record->tnf), mix(record->last);
 }
 
@@ -371,23 +371,23 @@ static void find(const uint8_t *bytes, ndef_size length, const ndef_record *reco
 /* Appends the record to a message of it; `copy` has its payload. */
 static void build(const uint8_t *bytes, const ndef_record *record) {
     ndef_size size = 64 + 16 * record->payload_length + 2 * (record->type_length + record->id_length);
-    ndef_built built = { 0, 0, 0 };
+    ndef_message_builder built = { 0, 0, 0 };
     if (size + MARKS > MOST) size = 1000;
     marked(size);
     for (uint32_t i = 0; i < 4; i++) {
         const ndef_writing how = { record->tnf, i == 1 ? NDEF_WRITE_LONG : i == 3, i == 2 ? 3 : 0 };
         ndef_size count = 77;
         mix_status(ndef_append(&built, bytes + record->type_at, record->type_length, bytes + record->id_at, record->id_length,
-                               copy, record->payload_length, &how, room, i ? size : size / 2, &count));
+                               copy, record->payload_length, &how, buffer, i ? size : size / 2, &count));
         mix(count), mix_built(&built);
     }
-    mix_bytes(room, size + MARKS);
+    mix_bytes(buffer, size + MARKS);
 }
 
 static void walk(const uint8_t *bytes, ndef_size length, int is_nested) {
     ndef_size at = 0;
     for (uint32_t flags = 0; flags < 5; flags += 2)
-        WRITTEN(1000, ndef_rewrite(bytes, length, flags, to, 1000, &count));
+        WRITTEN(1000, ndef_normalize(bytes, length, flags, to, 1000, &count));
     for (int i = 0; i < 12; i++) {
         ndef_record record = { 7, 7, 7, 7, 7, 7, 7, 7, 7, 7, 7, 7 };
         uint32_t status = mix_status(ndef_record_at(bytes, length, at, &record));
@@ -396,7 +396,7 @@ static void walk(const uint8_t *bytes, ndef_size length, int is_nested) {
         ndef_size size = record.payload_length;
         WRITTEN(size, ndef_payload(bytes, length, at, to, size ? size - 1 : 0, &count));
         WRITTEN(size, ndef_payload(bytes, length, at, to, size, &count));
-        copy_bytes(copy, room, size);
+        copy_bytes(copy, buffer, size);
         write_again(bytes, &record);
         write_in_steps(bytes, &record);
         build(bytes, &record);
@@ -448,8 +448,8 @@ static void look_at(const uint8_t *bytes, ndef_size length, ndef_limits limits) 
 
 static void names(void) {
     ndef_limits usual;
-    ndef_usual_limits(&usual);
-    mix(usual.payload), mix(usual.records), mix(usual.pieces), mix(usual.flags);
+    ndef_default_limits(&usual);
+    mix(usual.payload), mix(usual.records), mix(usual.chunks), mix(usual.flags);
     for (uint32_t reason = 0; reason < 40; reason++)
         WRITTEN(24, ndef_reason_name(reason, to, reason % 20, &count));
     for (uint32_t reason = 0; reason < 40; reason++)
@@ -502,8 +502,8 @@ static ndef_size within_a_record(uint8_t *bytes, ndef_size length) {
     const ndef_writing how = { NDEF_TNF_WELL_KNOWN, NDEF_WRITE_FIRST | NDEF_WRITE_LAST | (below(3) ? 0 : NDEF_WRITE_LONG), below(4) ? 0 : 1 + below(9) };
     ndef_size type_length = 1, count = 0;
     while (type[type_length]) type_length++;
-    if (ndef_write_record((const uint8_t *)type, type_length, bytes, 0, bytes, length, &how, room, MOST, &count) != NDEF_OK) return length;
-    copy_bytes(bytes, room, count);
+    if (ndef_write_record((const uint8_t *)type, type_length, bytes, 0, bytes, length, &how, buffer, MOST, &count) != NDEF_OK) return length;
+    copy_bytes(bytes, buffer, count);
     return count;
 }
 
@@ -543,7 +543,7 @@ void answers(void) {
             const struct message_case *one = &cases[i];
             if (one->length > MOST / 2) continue;
             copy_bytes(message, case_bytes + one->at, length = one->length);
-            limits.payload = one->payload, limits.records = one->records, limits.pieces = one->pieces;
+            limits.payload = one->payload, limits.records = one->records, limits.chunks = one->chunks;
         } else length = random_message();
         hash = 14695981039346656037u;
         mix_bytes(message, length);

@@ -60,10 +60,10 @@ static int is_record(const char *text, const ndef_record *record, const uint8_t 
     if (!is_part(id, bytes + record->id_at, record->id_length)) return 0;
     ndef_size length = from_hex(hexadecimal, told);
     if (length != record->payload_length) return 0;
-    if (ndef_payload(whole, record->end, record->at, payload, length ? length - 1 : 0, &count) != (length ? NDEF_NO_ROOM : NDEF_OK)) return 0;
+    if (ndef_payload(whole, record->end, record->at, payload, length ? length - 1 : 0, &count) != (length ? NDEF_BUFFER_TOO_SMALL : NDEF_OK)) return 0;
     if (count != length || ndef_payload(whole, record->end, record->at, payload, length, &count) != NDEF_OK) return 0;
     if (memcmp(payload, told, length)) return 0;
-    if (record->pieces == 1 && (record->part_length != length || memcmp(whole + record->payload_at, told, length))) return 0;
+    if (record->chunks == 1 && (record->part_length != length || memcmp(whole + record->payload_at, told, length))) return 0;
     ndef_writing how = { tnf, (*end == 0 ? (uint32_t)NDEF_WRITE_FIRST : 0) | (record->last ? (uint32_t)NDEF_WRITE_LAST : 0), 0 };
     if (ndef_write_record(bytes + record->type_at, record->type_length, bytes + record->id_at, record->id_length, payload,
                           length, &how, written + *end, sizeof written - *end, &count) != NDEF_OK) return 0;
@@ -120,11 +120,11 @@ static int is_answered(char *limit_words, const char *profile, int opaque, ndef_
     ndef_checked checked;
     unsigned long long place = 0;
     unsigned reason = 0;
-    ndef_usual_limits(&limits);
+    ndef_default_limits(&limits);
     for (char *word = strtok(limit_words, " "); word; word = strtok(NULL, " ")) {
         if (!strcmp(word, "payload")) limits.payload = (uint32_t)strtoul(strtok(NULL, " "), NULL, 10);
         if (!strcmp(word, "records")) limits.records = (uint32_t)strtoul(strtok(NULL, " "), NULL, 10);
-        if (!strcmp(word, "pieces")) limits.pieces = (uint32_t)strtoul(strtok(NULL, " "), NULL, 10);
+        if (!strcmp(word, "pieces")) limits.chunks = (uint32_t)strtoul(strtok(NULL, " "), NULL, 10);
     }
     limits.flags = (strcmp(profile, "standard") ? 0u : NDEF_STANDARD) | (opaque ? NDEF_OPAQUE : 0u);
     uint32_t status = ndef_check(bytes, length, &limits, &checked);

@@ -12,8 +12,8 @@ static void expect(int holds, const char *what) {
 }
 
 /* Whether what a call wrote is this text. */
-static inline int is(const uint8_t *room, ndef_size count, const char *text, ndef_size length) {
-    return count == length && memcmp(room, text, length) == 0;
+static inline int is(const uint8_t *buffer, ndef_size count, const char *text, ndef_size length) {
+    return count == length && memcmp(buffer, text, length) == 0;
 }
 
 #endif

@@ -1,13 +1,14 @@
 /* Each field of each struct that a call writes, with a value that no other field has. */
 #include "ndef.h"
 #include "expect.h"
+#include "since.h"
 
 #include <string.h>
 
 static void limits(void) {
     ndef_limits told = { 7, 7, 7, 7 };
-    ndef_usual_limits(&told);
-    expect(told.payload == 1048576 && told.records == 1024 && told.pieces == 4096 && told.flags == 0, "the usual limits are others");
+    ndef_default_limits(&told);
+    expect(told.payload == 1048576 && told.records == 1024 && told.chunks == 4096 && told.flags == 0, "the usual limits are others");
 }
 
 /* A record of type "A" with 2 bytes; then one of type "texts", id "the ids", in pieces of 9, 7 and 0 bytes; the message ends. */
@@ -20,7 +21,7 @@ static const uint8_t message[] = {
 static void checks(void) {
     ndef_limits usual;
     ndef_checked told = { 77, 77, 77 };
-    ndef_usual_limits(&usual);
+    ndef_default_limits(&usual);
     expect(ndef_check(message, sizeof message, &usual, &told) == NDEF_OK, "the message is refused");
     expect(told.place == 44 && told.records == 2 && told.reason == 0, "the message is told otherwise");
     expect(ndef_check(message, 23, &usual, &told) == NDEF_REFUSED, "a front of the message is taken");
@@ -33,13 +34,13 @@ static void records(void) {
     expect(ndef_record_at(message, sizeof message, 6, &told) == NDEF_OK, "the record isn't there");
     expect(told.at == 6 && told.end == 44, "the record lies elsewhere");
     expect(told.type_at == 10 && told.type_length == 5 && told.id_at == 15 && told.id_length == 7, "the type or the id lies elsewhere");
-    expect(told.payload_at == 22 && told.part_length == 9 && told.payload_length == 16 && told.pieces == 3, "the payload lies elsewhere");
+    expect(told.payload_at == 22 && told.part_length == 9 && told.payload_length == 16 && told.chunks == 3, "the payload lies elsewhere");
     expect(told.tnf == NDEF_TNF_MEDIA && told.last == 1, "the record is another one");
     memset(&told, 0x77, sizeof told);
     expect(ndef_record_at(message, sizeof message, 0, &told) == NDEF_OK, "the first record isn't there");
     expect(told.at == 0 && told.end == 6 && told.type_at == 3 && told.type_length == 1, "the first record lies elsewhere");
     expect(told.id_at == 4 && told.id_length == 0 && told.payload_at == 4 && told.part_length == 2, "an id of no bytes lies elsewhere");
-    expect(told.payload_length == 2 && told.pieces == 1 && told.tnf == NDEF_TNF_WELL_KNOWN && told.last == 0, "the first record is another one");
+    expect(told.payload_length == 2 && told.chunks == 1 && told.tnf == NDEF_TNF_WELL_KNOWN && told.last == 0, "the first record is another one");
 }
 
 static void texts(void) {

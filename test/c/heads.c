@@ -2,10 +2,11 @@
  * (NDEF 1.0, record layout and chunked payloads). */
 #include "ndef.h"
 #include "expect.h"
+#include "since.h"
 
 #include <string.h>
 
-static uint8_t payload[1024], room[2048];
+static uint8_t payload[1024], buffer[2048];
 
 /* The bytes that a record should have, one part after another. */
 typedef struct expected {
@@ -29,12 +30,12 @@ static int is_written(const ndef_writing *how, const char *type, const char *id,
     size_t count = 0;
     ndef_limits limits;
     ndef_checked checked;
-    ndef_usual_limits(&limits);
-    if (ndef_write_record((const uint8_t *)type, strlen(type), (const uint8_t *)id, strlen(id), payload, length, how, room, sizeof room,
+    ndef_default_limits(&limits);
+    if (ndef_write_record((const uint8_t *)type, strlen(type), (const uint8_t *)id, strlen(id), payload, length, how, buffer, sizeof buffer,
                           &count) != NDEF_OK) return 0;
-    if (count != to->count || memcmp(room, to->bytes, count)) return 0;
+    if (count != to->count || memcmp(buffer, to->bytes, count)) return 0;
     if ((how->flags & 3) != (NDEF_WRITE_FIRST | NDEF_WRITE_LAST)) return 1;
-    return ndef_check(room, count, &limits, &checked) == NDEF_OK && checked.place == count && checked.records == 1;
+    return ndef_check(buffer, count, &limits, &checked) == NDEF_OK && checked.place == count && checked.records == 1;
 }
 
 static void whole(void) {
@@ -85,7 +86,7 @@ static void flags(void) {
     }
     const ndef_writing unknown_flag = { NDEF_TNF_MEDIA, 8, 0 };
     size_t count = 77;
-    expect(ndef_write_record((const uint8_t *)"a", 1, payload, 0, payload, 0, &unknown_flag, room, sizeof room, &count) == NDEF_BAD_ARGUMENT
+    expect(ndef_write_record((const uint8_t *)"a", 1, payload, 0, payload, 0, &unknown_flag, buffer, sizeof buffer, &count) == NDEF_BAD_ARGUMENT
            && count == 77, "an unknown flag is taken");
 }
 

@@ -1,5 +1,5 @@
 /* Random messages, changed and cut, by ndef_items: its answer is that of ndef_check, and each item has what ndef_record_at, ndef_kind,
- * ndef_text and ndef_uri_view say. The array is a block of its own, so that a sanitizer sees a write beyond it. */
+ * ndef_text and ndef_split_uri say. The array is a block of its own, so that a sanitizer sees a write beyond it. */
 #include "ndef.h"
 #include "since.h"
 
@@ -76,11 +76,11 @@ static int has_value(const ndef_item *it, uint32_t flags) {
     ndef_uri_parts uri;
     ndef_checked why;
     const uint8_t *payload = message + it->payload_at;
-    if (it->pieces != 1) return chunked++, has_no_value(it);
+    if (it->chunks != 1) return chunked++, has_no_value(it);
     if ((flags & NDEF_OPAQUE) != 0) return has_no_value(it);
     if (it->kind == NDEF_KIND_TEXT) return texts++, ndef_text(payload, it->payload_length, &text, &why) == NDEF_OK && is_text(it, &text);
     if (it->kind == NDEF_KIND_URI)
-        return uris++, ndef_uri_view(payload, it->payload_length, flags, &uri, &why) == NDEF_OK && is_uri(it, &uri);
+        return uris++, ndef_split_uri(payload, it->payload_length, flags, &uri, &why) == NDEF_OK && is_uri(it, &uri);
     return has_no_value(it);
 }
 
@@ -88,7 +88,7 @@ static int has_value(const ndef_item *it, uint32_t flags) {
 static int repeats(const ndef_item *it, const ndef_record *r) {
     return it->at == r->at && it->end == r->end && it->tnf == r->tnf && it->type_at == r->type_at && it->type_length == r->type_length
         && it->payload_at - it->id_length == r->id_at && it->id_length == r->id_length && it->payload_at == r->payload_at
-        && it->payload_length == r->payload_length && it->pieces == r->pieces;
+        && it->payload_length == r->payload_length && it->chunks == r->chunks;
 }
 
 /* The items are the records of the message, in order. */
@@ -126,7 +126,7 @@ static void ask(ndef_size length, const ndef_limits *limits, ndef_size size) {
         expect(status == checked && are_marked(items, 0, size), "refused bytes");
         refused++;
     } else if (size < out.records) {
-        expect(status == NDEF_NO_ROOM && are_marked(items, 0, size), "an array that is too small");
+        expect(status == NDEF_BUFFER_TOO_SMALL && are_marked(items, 0, size), "an array that is too small");
     } else {
         expect(status == NDEF_OK && are_marked(items, out.records, size), "items after the last record");
         look_at_items(length, items, &out, limits->flags);
@@ -139,7 +139,7 @@ static void ask(ndef_size length, const ndef_limits *limits, ndef_size size) {
 static void bad_arguments(void) {
     const ndef_limits bad[] = { { 0, 1, 1, 0 }, { 1, 0, 1, 0 }, { 1, 1, 0, 0 }, { 1, 65536, 1, 0 }, { 1, 1, 65536, 0 }, { 1, 1, 1, 4 } };
     ndef_limits usual;
-    ndef_usual_limits(&usual);
+    ndef_default_limits(&usual);
     for (int i = 0; i < 7; i++) {
         ndef_checked out = { 7, 7, 7 };
         ndef_item item;
@@ -154,7 +154,7 @@ static void bad_arguments(void) {
 int main(int count, char **words) {
     unsigned long rounds = count > 1 ? strtoul(words[1], NULL, 10) : 20000;
     ndef_limits limits;
-    ndef_usual_limits(&limits);
+    ndef_default_limits(&limits);
     bad_arguments();
     for (unsigned long i = 0; i < rounds; i++) {
         ndef_size length = random_message();

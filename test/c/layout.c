@@ -16,7 +16,7 @@ _Static_assert(sizeof(ndef_size) == 8 && ALIGNED(ndef_size) == 8, "ndef_size has
 SIZE(ndef_limits, 16, 16);
 AT(ndef_limits, payload, uint32_t, 0);
 AT(ndef_limits, records, uint32_t, 4);
-AT(ndef_limits, pieces, uint32_t, 8);
+AT(ndef_limits, chunks, uint32_t, 8);
 AT(ndef_limits, flags, uint32_t, 12);
 
 SIZE(ndef_checked, 16, 16);
@@ -42,7 +42,7 @@ AT(ndef_record, id_length, ndef_size, 40);
 AT(ndef_record, payload_at, ndef_size, 48);
 AT(ndef_record, part_length, ndef_size, 56);
 AT(ndef_record, payload_length, ndef_size, 64);
-AT(ndef_record, pieces, ndef_size, 72);
+AT(ndef_record, chunks, ndef_size, 72);
 AT(ndef_record, tnf, uint32_t, 80);
 AT(ndef_record, last, uint32_t, 84);
 
@@ -129,10 +129,10 @@ AT(ndef_uri_parts, rest_at, ndef_size, 0);
 AT(ndef_uri_parts, rest_length, ndef_size, 8);
 AT(ndef_uri_parts, code, uint32_t, 16);
 
-SIZE(ndef_built, 24, 24);
-AT(ndef_built, length, ndef_size, 0);
-AT(ndef_built, last_at, ndef_size, 8);
-AT(ndef_built, records, uint32_t, 16);
+SIZE(ndef_message_builder, 24, 24);
+AT(ndef_message_builder, length, ndef_size, 0);
+AT(ndef_message_builder, last_at, ndef_size, 8);
+AT(ndef_message_builder, records, uint32_t, 16);
 
 SIZE(ndef_icon, 32, 32);
 AT(ndef_icon, media_type, ndef_part, 0);
@@ -177,7 +177,7 @@ AT(ndef_item, type_length, uint32_t, 20);
 AT(ndef_item, id_length, uint32_t, 24);
 AT(ndef_item, payload_at, uint32_t, 28);
 AT(ndef_item, payload_length, uint32_t, 32);
-AT(ndef_item, pieces, uint32_t, 36);
+AT(ndef_item, chunks, uint32_t, 36);
 AT(ndef_item, form, uint32_t, 40);
 AT(ndef_item, number, uint32_t, 44);
 AT(ndef_item, language_at, uint32_t, 48);
@@ -197,7 +197,7 @@ AT(ndef_laid_out, length_fits, uint32_t, 12);
 
 _Static_assert(NDEF_OK == 0, "NDEF_OK");
 _Static_assert(NDEF_REFUSED == 1, "NDEF_REFUSED");
-_Static_assert(NDEF_NO_ROOM == 2, "NDEF_NO_ROOM");
+_Static_assert(NDEF_BUFFER_TOO_SMALL == 2, "NDEF_BUFFER_TOO_SMALL");
 _Static_assert(NDEF_BAD_ARGUMENT == 3, "NDEF_BAD_ARGUMENT");
 _Static_assert(NDEF_END == 4, "NDEF_END");
 _Static_assert(NDEF_MORE == 5, "NDEF_MORE");

@@ -1,4 +1,4 @@
-/* The calls that fill an array, find a record, give its kind or build a message, and those of names: with an array or a room that fits and
+/* The calls that fill an array, find a record, give its kind or build a message, and those of names: with an array or a buffer that fits and
  * with one that is too small by one. VERSION_NUMBER is the version that the header names. */
 #include "ndef.h"
 #include "expect.h"
@@ -71,20 +71,20 @@ static void pieces(void) {
     ndef_size count = 77;
     memset(parts, 0x5a, sizeof parts);
     memcpy(marks, parts, sizeof marks);
-    expect(ndef_pieces(message, sizeof message, 6, parts, 2, &count) == NDEF_NO_ROOM && count == 3, "pieces: two parts are enough for three");
+    expect(ndef_chunks(message, sizeof message, 6, parts, 2, &count) == NDEF_BUFFER_TOO_SMALL && count == 3, "pieces: two parts are enough for three");
     expect(memcmp(parts, marks, sizeof parts) == 0, "pieces: a small array is written");
-    expect(ndef_pieces(message, sizeof message, 6, parts, 3, &count) == NDEF_OK && count == 3, "pieces: three parts are not enough");
+    expect(ndef_chunks(message, sizeof message, 6, parts, 3, &count) == NDEF_OK && count == 3, "pieces: three parts are not enough");
     expect(same_part(&parts[0], 22, 9) && same_part(&parts[1], 37, 300) && same_part(&parts[2], 340, 0), "pieces: they lie elsewhere");
     expect(memcmp(&parts[3], &marks[3], sizeof *parts) == 0, "pieces: a part behind them is written");
-    expect(ndef_pieces(message, sizeof message, 0, parts, 4, &count) == NDEF_OK && count == 1, "pieces: a whole record has others");
+    expect(ndef_chunks(message, sizeof message, 0, parts, 4, &count) == NDEF_OK && count == 1, "pieces: a whole record has others");
     expect(same_part(&parts[0], 4, 2), "pieces: a whole record lies elsewhere");
     count = 77;
-    expect(ndef_pieces(message, sizeof message, sizeof message, parts, 4, &count) == NDEF_BAD_ARGUMENT, "pieces: there are some at the end");
-    expect(ndef_pieces(message, sizeof message, 1, parts, 4, &count) == NDEF_BAD_ARGUMENT, "pieces: there are some within a record");
-    expect(ndef_pieces(message, 339, 6, parts, 4, &count) == NDEF_BAD_ARGUMENT, "pieces: there are some of half a record");
-    expect(ndef_pieces(message, sizeof message, (ndef_size)-1, parts, 4, &count) == NDEF_BAD_ARGUMENT, "pieces: there are some far away");
+    expect(ndef_chunks(message, sizeof message, sizeof message, parts, 4, &count) == NDEF_BAD_ARGUMENT, "pieces: there are some at the end");
+    expect(ndef_chunks(message, sizeof message, 1, parts, 4, &count) == NDEF_BAD_ARGUMENT, "pieces: there are some within a record");
+    expect(ndef_chunks(message, 339, 6, parts, 4, &count) == NDEF_BAD_ARGUMENT, "pieces: there are some of half a record");
+    expect(ndef_chunks(message, sizeof message, (ndef_size)-1, parts, 4, &count) == NDEF_BAD_ARGUMENT, "pieces: there are some far away");
     expect(count == 77 && same_part(&parts[0], 4, 2), "pieces: a wrong argument leaves something else");
-    expect(ndef_pieces(message, sizeof message, 6, NULL, 0, &count) == NDEF_NO_ROOM && count == 3, "pieces: no array is enough");
+    expect(ndef_chunks(message, sizeof message, 6, NULL, 0, &count) == NDEF_BUFFER_TOO_SMALL && count == 3, "pieces: no array is enough");
 }
 
 /* ---- references */
@@ -96,7 +96,7 @@ static void references(void) {
     ndef_size count = 77;
     memset(parts, 0x5a, sizeof parts);
     memcpy(marks, parts, sizeof marks);
-    expect(ndef_references(payload, sizeof payload, parts, 4, &count) == NDEF_NO_ROOM && count == 5, "references: four parts are enough for five");
+    expect(ndef_references(payload, sizeof payload, parts, 4, &count) == NDEF_BUFFER_TOO_SMALL && count == 5, "references: four parts are enough for five");
     expect(memcmp(parts, marks, sizeof parts) == 0, "references: a small array is written");
     expect(ndef_references(payload, sizeof payload, parts, 5, &count) == NDEF_OK && count == 5, "references: five parts are not enough");
     expect(same_part(&parts[0], 2, 1) && same_part(&parts[1], 5, 3) && same_part(&parts[2], 9, 0) && same_part(&parts[3], 10, 1) && same_part(&parts[4], 12, 0),
@@ -133,7 +133,7 @@ static void links(void) {
     memcpy(bytes + 5 + sizeof handover, others, sizeof others);
     memset(told, 0x5a, sizeof told);
     memcpy(marks, told, sizeof marks);
-    expect(ndef_links(bytes, whole, handover, sizeof handover, told, 2, &count) == NDEF_NO_ROOM && count == 3, "links: two are enough for three");
+    expect(ndef_links(bytes, whole, handover, sizeof handover, told, 2, &count) == NDEF_BUFFER_TOO_SMALL && count == 3, "links: two are enough for three");
     expect(memcmp(told, marks, sizeof told) == 0, "links: a small array is written");
     expect(ndef_links(bytes, whole, handover, sizeof handover, told, 3, &count) == NDEF_OK && count == 3, "links: three are not enough");
     expect(told[0].carrier_at == 6 && told[0].carrier_length == 4 && told[0].has_record == 1 && told[0].record_index == 2
@@ -187,18 +187,18 @@ static void version(void) {
 }
 
 static void names(void) {
-    static const char *const texts[] = { "Ok", "Refused", "NoRoom", "BadArgument", "End", "More" };
-    uint8_t room[12];
+    static const char *const texts[] = { "Ok", "Refused", IS_SINCE(0, 4) ? "BufferTooSmall" : "NoRoom", "BadArgument", "End", "More" };
+    uint8_t buffer[15];
     ndef_size count;
     for (uint32_t status = 0; status < 6; status++) {
         ndef_size length = strlen(texts[status]);
-        memset(room, 0x77, sizeof room);
-        expect(ndef_status_name(status, room, length - 1, &count) == NDEF_NO_ROOM && count == length && room[0] == 0x77, "names: a small room is enough");
-        expect(ndef_status_name(status, room, length, &count) == NDEF_OK && count == length && memcmp(room, texts[status], length) == 0 && room[length] == 0x77,
+        memset(buffer, 0x77, sizeof buffer);
+        expect(ndef_status_name(status, buffer, length - 1, &count) == NDEF_BUFFER_TOO_SMALL && count == length && buffer[0] == 0x77, "names: a small buffer is enough");
+        expect(ndef_status_name(status, buffer, length, &count) == NDEF_OK && count == length && memcmp(buffer, texts[status], length) == 0 && buffer[length] == 0x77,
                "names: a status has another");
     }
     count = 77;
-    expect(ndef_status_name(6, room, sizeof room, &count) == NDEF_BAD_ARGUMENT && count == 77, "names: there are more statuses");
+    expect(ndef_status_name(6, buffer, sizeof buffer, &count) == NDEF_BAD_ARGUMENT && count == 77, "names: there are more statuses");
 }
 
 /* ---- URIs where they lie */
@@ -207,21 +207,21 @@ static void uris(void) {
     static const uint8_t payload[] = { 4, 'a', '.', 'd', 'e' };
     ndef_uri_parts told;
     ndef_checked why = { 7, 7, 7 };
-    uint8_t room[32];
+    uint8_t buffer[32];
     ndef_size count;
     memset(&told, 0x77, sizeof told);
-    expect(ndef_uri_view(payload, sizeof payload, 0, &told, &why) == NDEF_OK && why.place == 7, "URIs: one isn't read");
+    expect(ndef_split_uri(payload, sizeof payload, 0, &told, &why) == NDEF_OK && why.place == 7, "URIs: one isn't read");
     expect(told.code == 4 && told.rest_at == 1 && told.rest_length == 4, "URIs: one lies elsewhere");
-    expect(ndef_uri_prefix(told.code, room, 7, &count) == NDEF_NO_ROOM && count == 8, "URIs: a prefix needs another length");
-    expect(ndef_uri_prefix(told.code, room, 8, &count) == NDEF_OK && count == 8 && memcmp(room, "https://", 8) == 0, "URIs: a prefix is another one");
-    expect(ndef_uri_prefix(7, room, sizeof room, &count) == NDEF_OK && count == 26, "URIs: the longest prefix is another one");
-    expect(ndef_uri_prefix(36, room, 0, &count) == NDEF_OK && count == 0, "URIs: a reserved code has a prefix");
-    expect(ndef_uri_prefix(255, room, 0, &count) == NDEF_OK && count == 0, "URIs: the last code has a prefix");
-    expect(ndef_uri_prefix(256, room, 0, &count) == NDEF_BAD_ARGUMENT, "URIs: a code of two bytes has a prefix");
+    expect(ndef_uri_prefix(told.code, buffer, 7, &count) == NDEF_BUFFER_TOO_SMALL && count == 8, "URIs: a prefix needs another length");
+    expect(ndef_uri_prefix(told.code, buffer, 8, &count) == NDEF_OK && count == 8 && memcmp(buffer, "https://", 8) == 0, "URIs: a prefix is another one");
+    expect(ndef_uri_prefix(7, buffer, sizeof buffer, &count) == NDEF_OK && count == 26, "URIs: the longest prefix is another one");
+    expect(ndef_uri_prefix(36, buffer, 0, &count) == NDEF_OK && count == 0, "URIs: a reserved code has a prefix");
+    expect(ndef_uri_prefix(255, buffer, 0, &count) == NDEF_OK && count == 0, "URIs: the last code has a prefix");
+    expect(ndef_uri_prefix(256, buffer, 0, &count) == NDEF_BAD_ARGUMENT, "URIs: a code of two bytes has a prefix");
     memset(&told, 0x77, sizeof told);
-    expect(ndef_uri_view((const uint8_t *)"\x24" "a", 2, 0, &told, &why) == NDEF_REFUSED && why.place == 0 && why.reason == 19, "URIs: a reserved code is read");
-    expect(ndef_uri_view((const uint8_t *)"\x24" "a", 2, 2, &told, &why) == NDEF_BAD_ARGUMENT && told.code == 0x77777777, "URIs: an unknown flag is taken");
-    expect(ndef_uri_view((const uint8_t *)"\x24" "a", 2, NDEF_STANDARD, &told, &why) == NDEF_OK && told.code == 36 && told.rest_length == 1,
+    expect(ndef_split_uri((const uint8_t *)"\x24" "a", 2, 0, &told, &why) == NDEF_REFUSED && why.place == 0 && why.reason == 19, "URIs: a reserved code is read");
+    expect(ndef_split_uri((const uint8_t *)"\x24" "a", 2, 2, &told, &why) == NDEF_BAD_ARGUMENT && told.code == 0x77777777, "URIs: an unknown flag is taken");
+    expect(ndef_split_uri((const uint8_t *)"\x24" "a", 2, NDEF_STANDARD, &told, &why) == NDEF_OK && told.code == 36 && told.rest_length == 1,
            "URIs: the standard has no reserved codes");
 }
 
@@ -235,42 +235,42 @@ static void built(void) {
     static const uint8_t two[] = { 0x94, 1, 2, 'a', 'x', 'y', 0x3c, 1, 2, 1, 'b', 'i', 'u', 'v', 0x56, 0, 1, 'w' };
     static const uint8_t three[] = { 0x94, 1, 2, 'a', 'x', 'y', 0x3c, 1, 2, 1, 'b', 'i', 'u', 'v', 0x16, 0, 1, 'w', 0x44, 1, 0, 0, 0, 0, 'c' };
     ndef_writing plain = { 4, 0, 0 }, cut = { 4, 0, 2 }, wide = { 4, NDEF_WRITE_LONG, 0 }, wrong = { 4, 1, 0 };
-    ndef_built state = { 0, 0, 0 }, kept;
-    uint8_t room[40], marks[40];
+    ndef_message_builder state = { 0, 0, 0 }, kept;
+    uint8_t buffer[40], marks[40];
     ndef_size count = 77;
-    memset(room, 0xa5, sizeof room);
-    expect(ndef_append(&state, octets("a"), 1, NULL, 0, octets("xy"), 2, &plain, room, 5, &count) == NDEF_NO_ROOM && count == 6, "built: the first needs another length");
-    expect(state.length == 0 && state.records == 0 && room[0] == 0xa5, "built: a small room is written");
-    expect(ndef_append(&state, octets("a"), 1, NULL, 0, octets("xy"), 2, &plain, room, 6, &count) == NDEF_OK && count == 6, "built: the first isn't appended");
-    expect(memcmp(room, one, sizeof one) == 0 && room[6] == 0xa5, "built: the first is another message");
+    memset(buffer, 0xa5, sizeof buffer);
+    expect(ndef_append(&state, octets("a"), 1, NULL, 0, octets("xy"), 2, &plain, buffer, 5, &count) == NDEF_BUFFER_TOO_SMALL && count == 6, "built: the first needs another length");
+    expect(state.length == 0 && state.records == 0 && buffer[0] == 0xa5, "built: a small buffer is written");
+    expect(ndef_append(&state, octets("a"), 1, NULL, 0, octets("xy"), 2, &plain, buffer, 6, &count) == NDEF_OK && count == 6, "built: the first isn't appended");
+    expect(memcmp(buffer, one, sizeof one) == 0 && buffer[6] == 0xa5, "built: the first is another message");
     expect(state.length == 6 && state.last_at == 0 && state.records == 1, "built: the first is told otherwise");
-    memcpy(marks, room, sizeof room);
+    memcpy(marks, buffer, sizeof buffer);
     kept = state;
-    expect(ndef_append(&state, octets("b"), 1, octets("i"), 1, octets("uvw"), 3, &cut, room, 17, &count) == NDEF_NO_ROOM && count == 18, "built: pieces need another length");
-    expect(memcmp(room, marks, sizeof room) == 0 && state.length == 6 && state.last_at == 0 && state.records == 1, "built: a room that is too small for pieces is written");
-    expect(ndef_append(&state, octets("b"), 1, octets("i"), 1, octets("uvw"), 3, &cut, room, 18, &count) == NDEF_OK && count == 18, "built: pieces aren't appended");
-    expect(memcmp(room, two, sizeof two) == 0 && room[18] == 0xa5, "built: pieces make another message");
+    expect(ndef_append(&state, octets("b"), 1, octets("i"), 1, octets("uvw"), 3, &cut, buffer, 17, &count) == NDEF_BUFFER_TOO_SMALL && count == 18, "built: pieces need another length");
+    expect(memcmp(buffer, marks, sizeof buffer) == 0 && state.length == 6 && state.last_at == 0 && state.records == 1, "built: a buffer that is too small for pieces is written");
+    expect(ndef_append(&state, octets("b"), 1, octets("i"), 1, octets("uvw"), 3, &cut, buffer, 18, &count) == NDEF_OK && count == 18, "built: pieces aren't appended");
+    expect(memcmp(buffer, two, sizeof two) == 0 && buffer[18] == 0xa5, "built: pieces make another message");
     expect(state.length == 18 && state.last_at == 14 && state.records == 2, "built: pieces are told otherwise");
-    expect(ndef_append(&state, octets("c"), 1, NULL, 0, NULL, 0, &wide, room, sizeof room, &count) == NDEF_OK && count == 25, "built: the long form isn't appended");
-    expect(memcmp(room, three, sizeof three) == 0 && room[25] == 0xa5, "built: the long form makes another message");
+    expect(ndef_append(&state, octets("c"), 1, NULL, 0, NULL, 0, &wide, buffer, sizeof buffer, &count) == NDEF_OK && count == 25, "built: the long form isn't appended");
+    expect(memcmp(buffer, three, sizeof three) == 0 && buffer[25] == 0xa5, "built: the long form makes another message");
     expect(state.length == 25 && state.last_at == 18 && state.records == 3, "built: the long form is told otherwise");
-    memcpy(marks, room, sizeof room);
+    memcpy(marks, buffer, sizeof buffer);
     count = 77;
-    expect(ndef_append(&state, octets("a"), 1, NULL, 0, NULL, 0, &wrong, room, sizeof room, &count) == NDEF_BAD_ARGUMENT, "built: the flag of the first is taken");
-    expect(ndef_append(&state, octets("a"), 0, NULL, 0, NULL, 0, &plain, room, sizeof room, &count) == NDEF_BAD_ARGUMENT, "built: an empty type is taken");
+    expect(ndef_append(&state, octets("a"), 1, NULL, 0, NULL, 0, &wrong, buffer, sizeof buffer, &count) == NDEF_BAD_ARGUMENT, "built: the flag of the first is taken");
+    expect(ndef_append(&state, octets("a"), 0, NULL, 0, NULL, 0, &plain, buffer, sizeof buffer, &count) == NDEF_BAD_ARGUMENT, "built: an empty type is taken");
     kept = state, kept.last_at--;
-    expect(ndef_append(&kept, octets("a"), 1, NULL, 0, NULL, 0, &plain, room, sizeof room, &count) == NDEF_BAD_ARGUMENT, "built: another place is taken");
+    expect(ndef_append(&kept, octets("a"), 1, NULL, 0, NULL, 0, &plain, buffer, sizeof buffer, &count) == NDEF_BAD_ARGUMENT, "built: another place is taken");
     kept = state, kept.length--;
-    expect(ndef_append(&kept, octets("a"), 1, NULL, 0, NULL, 0, &plain, room, sizeof room, &count) == NDEF_BAD_ARGUMENT, "built: another length is taken");
+    expect(ndef_append(&kept, octets("a"), 1, NULL, 0, NULL, 0, &plain, buffer, sizeof buffer, &count) == NDEF_BAD_ARGUMENT, "built: another length is taken");
     kept = state, kept.length = (uint64_t)-1;
-    expect(ndef_append(&kept, octets("a"), 1, NULL, 0, NULL, 0, &plain, room, sizeof room, &count) == NDEF_BAD_ARGUMENT, "built: the greatest length is taken");
+    expect(ndef_append(&kept, octets("a"), 1, NULL, 0, NULL, 0, &plain, buffer, sizeof buffer, &count) == NDEF_BAD_ARGUMENT, "built: the greatest length is taken");
     kept = state, kept.last_at = (uint64_t)-1;
-    expect(ndef_append(&kept, octets("a"), 1, NULL, 0, NULL, 0, &plain, room, sizeof room, &count) == NDEF_BAD_ARGUMENT, "built: the greatest place is taken");
+    expect(ndef_append(&kept, octets("a"), 1, NULL, 0, NULL, 0, &plain, buffer, sizeof buffer, &count) == NDEF_BAD_ARGUMENT, "built: the greatest place is taken");
     kept = state, kept.records = 0xffffffff;
-    expect(ndef_append(&kept, octets("a"), 1, NULL, 0, NULL, 0, &plain, room, sizeof room, &count) == NDEF_BAD_ARGUMENT, "built: a record too many is taken");
+    expect(ndef_append(&kept, octets("a"), 1, NULL, 0, NULL, 0, &plain, buffer, sizeof buffer, &count) == NDEF_BAD_ARGUMENT, "built: a record too many is taken");
     kept = state, kept.length = 0;
-    expect(ndef_append(&kept, octets("a"), 1, NULL, 0, NULL, 0, &plain, room, sizeof room, &count) == NDEF_BAD_ARGUMENT, "built: records with no length are taken");
-    expect(count == 77 && memcmp(room, marks, sizeof room) == 0 && state.length == 25, "built: a wrong argument leaves something else");
+    expect(ndef_append(&kept, octets("a"), 1, NULL, 0, NULL, 0, &plain, buffer, sizeof buffer, &count) == NDEF_BAD_ARGUMENT, "built: records with no length are taken");
+    expect(count == 77 && memcmp(buffer, marks, sizeof buffer) == 0 && state.length == 25, "built: a wrong argument leaves something else");
 }
 
 /* ---- texts and URIs that are appended */
@@ -282,38 +282,38 @@ static void appended(void) {
         0x99, 1, 5, 2, 'T', 'a', 'b', 2, 'd', 'e', 'H', 'i',
         0x11, 1, 4, 'U', 1, 'x', '.', 'y',
         0x59, 1, 8, 1, 'T', 'c', 0x81, 'f', 0xfe, 0xff, 0x20, 0xac, 0, 'A' };
-    ndef_built state = { 0, 0, 0 }, kept;
-    uint8_t room[40], marks[40];
+    ndef_message_builder state = { 0, 0, 0 }, kept;
+    uint8_t buffer[40], marks[40];
     ndef_size count = 77;
-    memset(room, 0xa5, sizeof room);
-    expect(ndef_append_text(&state, octets("ab"), 2, octets("de"), 2, octets("Hi"), 2, 0, room, 11, &count) == NDEF_NO_ROOM && count == 12,
+    memset(buffer, 0xa5, sizeof buffer);
+    expect(ndef_append_text(&state, octets("ab"), 2, octets("de"), 2, octets("Hi"), 2, 0, buffer, 11, &count) == NDEF_BUFFER_TOO_SMALL && count == 12,
            "appended: a text needs another length");
-    expect(state.length == 0 && state.records == 0 && room[0] == 0xa5, "appended: a small room is written");
-    expect(ndef_append_text(&state, octets("ab"), 2, octets("de"), 2, octets("Hi"), 2, 0, room, 12, &count) == NDEF_OK && count == 12, "appended: a text isn't");
-    expect(memcmp(room, one, sizeof one) == 0 && room[12] == 0xa5, "appended: a text is another message");
+    expect(state.length == 0 && state.records == 0 && buffer[0] == 0xa5, "appended: a small buffer is written");
+    expect(ndef_append_text(&state, octets("ab"), 2, octets("de"), 2, octets("Hi"), 2, 0, buffer, 12, &count) == NDEF_OK && count == 12, "appended: a text isn't");
+    expect(memcmp(buffer, one, sizeof one) == 0 && buffer[12] == 0xa5, "appended: a text is another message");
     expect(state.length == 12 && state.last_at == 0 && state.records == 1, "appended: a text is told otherwise");
-    memcpy(marks, room, sizeof room);
-    expect(ndef_append_uri(&state, NULL, 0, octets("http://www.x.y"), 14, room, 19, &count) == NDEF_NO_ROOM && count == 20, "appended: a URI needs another length");
-    expect(memcmp(room, marks, sizeof room) == 0 && state.length == 12 && state.records == 1, "appended: a room that is too small for a URI is written");
-    expect(ndef_append_uri(&state, NULL, 0, octets("http://www.x.y"), 14, room, 20, &count) == NDEF_OK && count == 20, "appended: a URI isn't");
+    memcpy(marks, buffer, sizeof buffer);
+    expect(ndef_append_uri(&state, NULL, 0, octets("http://www.x.y"), 14, buffer, 19, &count) == NDEF_BUFFER_TOO_SMALL && count == 20, "appended: a URI needs another length");
+    expect(memcmp(buffer, marks, sizeof buffer) == 0 && state.length == 12 && state.records == 1, "appended: a buffer that is too small for a URI is written");
+    expect(ndef_append_uri(&state, NULL, 0, octets("http://www.x.y"), 14, buffer, 20, &count) == NDEF_OK && count == 20, "appended: a URI isn't");
     expect(state.length == 20 && state.last_at == 12 && state.records == 2, "appended: a URI is told otherwise");
-    expect(ndef_append_text(&state, octets("c"), 1, octets("f"), 1, octets("\xe2\x82\xac" "A"), 4, NDEF_AS_UTF16, room, 33, &count) == NDEF_NO_ROOM && count == 34,
+    expect(ndef_append_text(&state, octets("c"), 1, octets("f"), 1, octets("\xe2\x82\xac" "A"), 4, NDEF_AS_UTF16, buffer, 33, &count) == NDEF_BUFFER_TOO_SMALL && count == 34,
            "appended: UTF-16 needs another length");
-    expect(ndef_append_text(&state, octets("c"), 1, octets("f"), 1, octets("\xe2\x82\xac" "A"), 4, NDEF_AS_UTF16, room, 34, &count) == NDEF_OK && count == 34,
+    expect(ndef_append_text(&state, octets("c"), 1, octets("f"), 1, octets("\xe2\x82\xac" "A"), 4, NDEF_AS_UTF16, buffer, 34, &count) == NDEF_OK && count == 34,
            "appended: UTF-16 isn't");
-    expect(memcmp(room, three, sizeof three) == 0 && room[34] == 0xa5, "appended: the three are another message");
+    expect(memcmp(buffer, three, sizeof three) == 0 && buffer[34] == 0xa5, "appended: the three are another message");
     expect(state.length == 34 && state.last_at == 20 && state.records == 3, "appended: UTF-16 is told otherwise");
-    memcpy(marks, room, sizeof room);
+    memcpy(marks, buffer, sizeof buffer);
     count = 77;
-    expect(ndef_append_text(&state, NULL, 0, octets("f"), 1, octets("A"), 1, 2, room, sizeof room, &count) == NDEF_BAD_ARGUMENT, "appended: an unknown flag is taken");
-    expect(ndef_append_text(&state, NULL, 0, octets("\x80"), 1, octets("A"), 1, 0, room, sizeof room, &count) == NDEF_BAD_ARGUMENT, "appended: a language beyond ASCII is taken");
-    expect(ndef_append_text(&state, NULL, 0, octets("f"), 1, octets("\xff"), 1, 0, room, sizeof room, &count) == NDEF_BAD_ARGUMENT, "appended: a text beyond UTF-8 is taken");
-    expect(ndef_append_uri(&state, NULL, 0, octets("\xff"), 1, room, sizeof room, &count) == NDEF_BAD_ARGUMENT, "appended: a URI beyond UTF-8 is taken");
-    expect(ndef_append_uri(&state, message, 256, octets("x"), 1, room, sizeof room, &count) == NDEF_BAD_ARGUMENT, "appended: an id of 256 bytes is taken");
+    expect(ndef_append_text(&state, NULL, 0, octets("f"), 1, octets("A"), 1, 2, buffer, sizeof buffer, &count) == NDEF_BAD_ARGUMENT, "appended: an unknown flag is taken");
+    expect(ndef_append_text(&state, NULL, 0, octets("\x80"), 1, octets("A"), 1, 0, buffer, sizeof buffer, &count) == NDEF_BAD_ARGUMENT, "appended: a language beyond ASCII is taken");
+    expect(ndef_append_text(&state, NULL, 0, octets("f"), 1, octets("\xff"), 1, 0, buffer, sizeof buffer, &count) == NDEF_BAD_ARGUMENT, "appended: a text beyond UTF-8 is taken");
+    expect(ndef_append_uri(&state, NULL, 0, octets("\xff"), 1, buffer, sizeof buffer, &count) == NDEF_BAD_ARGUMENT, "appended: a URI beyond UTF-8 is taken");
+    expect(ndef_append_uri(&state, message, 256, octets("x"), 1, buffer, sizeof buffer, &count) == NDEF_BAD_ARGUMENT, "appended: an id of 256 bytes is taken");
     kept = state, kept.length--;
-    expect(ndef_append_uri(&kept, NULL, 0, octets("x"), 1, room, sizeof room, &count) == NDEF_BAD_ARGUMENT, "appended: another length is taken");
-    expect(ndef_append_text(&kept, NULL, 0, octets("f"), 1, octets("A"), 1, 0, room, sizeof room, &count) == NDEF_BAD_ARGUMENT, "appended: another length is taken for a text");
-    expect(count == 77 && memcmp(room, marks, sizeof room) == 0 && state.length == 34, "appended: a wrong argument leaves something else");
+    expect(ndef_append_uri(&kept, NULL, 0, octets("x"), 1, buffer, sizeof buffer, &count) == NDEF_BAD_ARGUMENT, "appended: another length is taken");
+    expect(ndef_append_text(&kept, NULL, 0, octets("f"), 1, octets("A"), 1, 0, buffer, sizeof buffer, &count) == NDEF_BAD_ARGUMENT, "appended: another length is taken for a text");
+    expect(count == 77 && memcmp(buffer, marks, sizeof buffer) == 0 && state.length == 34, "appended: a wrong argument leaves something else");
 }
 
 /* ---- titles and media types of posters */
@@ -337,7 +337,7 @@ static void titles(void) {
     ndef_size count = 77;
     memset(told, 0x5a, sizeof told);
     memcpy(marks, told, sizeof marks);
-    expect(ndef_poster_titles(payload, sizeof payload, told, 2, &count) == NDEF_NO_ROOM && count == 3, "titles: two are enough for three");
+    expect(ndef_poster_titles(payload, sizeof payload, told, 2, &count) == NDEF_BUFFER_TOO_SMALL && count == 3, "titles: two are enough for three");
     expect(memcmp(told, marks, sizeof marks) == 0, "titles: a small array is written");
     expect(ndef_poster_titles(payload, sizeof payload, told, 3, &count) == NDEF_OK && count == 3, "titles: three aren't told");
     expect(same_text(told, 11, 2, 13, 5, 0) && same_text(told + 1, 31, 5, 36, 4, 1) && same_text(told + 2, 52, 5, 57, 3, 0), "titles: they lie elsewhere");
@@ -375,7 +375,7 @@ static void icons(void) {
     ndef_size count = 77;
     memset(told, 0x5a, sizeof told);
     memcpy(marks, told, sizeof marks);
-    expect(ndef_poster_icons(payload, sizeof payload, told, 2, &count) == NDEF_NO_ROOM && count == 3, "icons: two are enough for three");
+    expect(ndef_poster_icons(payload, sizeof payload, told, 2, &count) == NDEF_BUFFER_TOO_SMALL && count == 3, "icons: two are enough for three");
     expect(memcmp(told, marks, sizeof marks) == 0, "icons: a small array is written");
     expect(ndef_poster_icons(payload, sizeof payload, told, 3, &count) == NDEF_OK && count == 3, "icons: three aren't told");
     expect(same_icon(told, 9, 9, 18, 3) && same_icon(told + 1, 33, 7, 41, 2) && same_icon(told + 2, 46, 3, 49, 0), "icons: they lie elsewhere");
@@ -395,21 +395,21 @@ static void rewritten(void) {
         0x4c, 1, 0, 0, 0, 1, 2, 'x', 'a', 'b', 7, 0xff };
     static const uint8_t joined[] = { 0x91, 1, 5, 'T', 2, 'e', 'n', 'H', 'i', 0x5c, 1, 1, 2, 'x', 'a', 'b', 7 };
     static const uint8_t wide[] = { 0x81, 1, 0, 0, 0, 5, 'T', 2, 'e', 'n', 'H', 'i', 0x4c, 1, 0, 0, 0, 1, 2, 'x', 'a', 'b', 7 };
-    uint8_t room[32];
+    uint8_t buffer[32];
     ndef_size count = 77;
-    memset(room, 0xa5, sizeof room);
-    expect(ndef_rewrite(chunked, sizeof chunked, 0, room, 16, &count) == NDEF_NO_ROOM && count == 17, "rewritten: another length is needed");
-    expect(room[0] == 0xa5, "rewritten: a small room is written");
-    expect(ndef_rewrite(chunked, sizeof chunked, 0, room, 17, &count) == NDEF_OK && count == 17, "rewritten: a message isn't");
-    expect(memcmp(room, joined, sizeof joined) == 0 && room[17] == 0xa5, "rewritten: it is another message");
-    expect(ndef_rewrite(chunked, sizeof chunked, NDEF_WRITE_LONG, room, 22, &count) == NDEF_NO_ROOM && count == 23, "rewritten: the long form needs another length");
-    expect(ndef_rewrite(chunked, sizeof chunked, NDEF_WRITE_LONG, room, 23, &count) == NDEF_OK && count == 23, "rewritten: the long form isn't");
-    expect(memcmp(room, wide, sizeof wide) == 0 && room[23] == 0xa5, "rewritten: the long form is another message");
+    memset(buffer, 0xa5, sizeof buffer);
+    expect(ndef_normalize(chunked, sizeof chunked, 0, buffer, 16, &count) == NDEF_BUFFER_TOO_SMALL && count == 17, "rewritten: another length is needed");
+    expect(buffer[0] == 0xa5, "rewritten: a small buffer is written");
+    expect(ndef_normalize(chunked, sizeof chunked, 0, buffer, 17, &count) == NDEF_OK && count == 17, "rewritten: a message isn't");
+    expect(memcmp(buffer, joined, sizeof joined) == 0 && buffer[17] == 0xa5, "rewritten: it is another message");
+    expect(ndef_normalize(chunked, sizeof chunked, NDEF_WRITE_LONG, buffer, 22, &count) == NDEF_BUFFER_TOO_SMALL && count == 23, "rewritten: the long form needs another length");
+    expect(ndef_normalize(chunked, sizeof chunked, NDEF_WRITE_LONG, buffer, 23, &count) == NDEF_OK && count == 23, "rewritten: the long form isn't");
+    expect(memcmp(buffer, wide, sizeof wide) == 0 && buffer[23] == 0xa5, "rewritten: the long form is another message");
     count = 77;
-    expect(ndef_rewrite(chunked, sizeof chunked, 1, room, 32, &count) == NDEF_BAD_ARGUMENT, "rewritten: the flag of the first is taken");
-    expect(ndef_rewrite(chunked, sizeof chunked - 2, 0, room, 32, &count) == NDEF_BAD_ARGUMENT, "rewritten: half a record is taken");
-    expect(ndef_rewrite(octets("\xd1\0\0"), 3, 0, room, 32, &count) == NDEF_BAD_ARGUMENT, "rewritten: a record without type is taken");
-    expect(count == 77 && memcmp(room, wide, sizeof wide) == 0, "rewritten: a wrong argument leaves something else");
+    expect(ndef_normalize(chunked, sizeof chunked, 1, buffer, 32, &count) == NDEF_BAD_ARGUMENT, "rewritten: the flag of the first is taken");
+    expect(ndef_normalize(chunked, sizeof chunked - 2, 0, buffer, 32, &count) == NDEF_BAD_ARGUMENT, "rewritten: half a record is taken");
+    expect(ndef_normalize(octets("\xd1\0\0"), 3, 0, buffer, 32, &count) == NDEF_BAD_ARGUMENT, "rewritten: a record without type is taken");
+    expect(count == 77 && memcmp(buffer, wide, sizeof wide) == 0, "rewritten: a wrong argument leaves something else");
 }
 
 /* ---- a poster written in one call */
@@ -431,20 +431,20 @@ static void poster_written(void) {
     const ndef_poster_writing how = { { 0, 14 }, { 14, 6 }, 1, 1, 2, 1, 0x01020304 };
     const ndef_poster_writing short_one = { { 22, 1 }, { 9999, 9 }, 0, 0, 9999, 0, 9 };
     ndef_icon icon;
-    uint8_t room[80];
+    uint8_t buffer[80];
     ndef_size count = 77;
-    memset(room, 0xa5, sizeof room);
-    expect(ndef_write_poster(poster_bytes, POSTER_BYTES, &how, titles, 2, icons, 1, room, sizeof whole - 1, &count) == NDEF_NO_ROOM
+    memset(buffer, 0xa5, sizeof buffer);
+    expect(ndef_write_poster(poster_bytes, POSTER_BYTES, &how, titles, 2, icons, 1, buffer, sizeof whole - 1, &count) == NDEF_BUFFER_TOO_SMALL
                && count == sizeof whole, "poster: another length is needed");
-    expect(room[0] == 0xa5, "poster: a small room is written");
-    expect(ndef_write_poster(poster_bytes, POSTER_BYTES, &how, titles, 2, icons, 1, room, sizeof whole, &count) == NDEF_OK && count == sizeof whole,
+    expect(buffer[0] == 0xa5, "poster: a small buffer is written");
+    expect(ndef_write_poster(poster_bytes, POSTER_BYTES, &how, titles, 2, icons, 1, buffer, sizeof whole, &count) == NDEF_OK && count == sizeof whole,
            "poster: it isn't written");
-    expect(memcmp(room, whole, sizeof whole) == 0 && room[sizeof whole] == 0xa5, "poster: it is another payload");
-    expect(ndef_poster_icons(room, sizeof whole, &icon, 1, &count) == NDEF_OK && count == 1 && same_icon(&icon, sizeof whole - 11, 9, sizeof whole - 2, 2),
+    expect(memcmp(buffer, whole, sizeof whole) == 0 && buffer[sizeof whole] == 0xa5, "poster: it is another payload");
+    expect(ndef_poster_icons(buffer, sizeof whole, &icon, 1, &count) == NDEF_OK && count == 1 && same_icon(&icon, sizeof whole - 11, 9, sizeof whole - 2, 2),
            "poster: its icon isn't told");
-    expect(ndef_write_poster(poster_bytes, POSTER_BYTES, &short_one, NULL, 0, small, 1, room, sizeof room, &count) == NDEF_OK && count == sizeof plain,
+    expect(ndef_write_poster(poster_bytes, POSTER_BYTES, &short_one, NULL, 0, small, 1, buffer, sizeof buffer, &count) == NDEF_OK && count == sizeof plain,
            "poster: a short one isn't written");
-    expect(memcmp(room, plain, sizeof plain) == 0 && room[sizeof plain] == whole[sizeof plain], "poster: a short one is another payload");
+    expect(memcmp(buffer, plain, sizeof plain) == 0 && buffer[sizeof plain] == whole[sizeof plain], "poster: a short one is another payload");
 }
 
 /* Each argument that is refused differs in one number from one that is taken. */
@@ -457,19 +457,19 @@ static void poster_refused(void) {
         { { 0, 14 }, { 38, 1 }, 1, 0, 0, 0, 0 }, { { 0, 14 }, { 0, 0 }, 2, 0, 0, 0, 0 }, { { 0, 14 }, { 0, 0 }, 0, 2, 0, 0, 0 },
         { { 0, 14 }, { 0, 0 }, 0, 1, 256, 0, 0 }, { { 0, 14 }, { 0, 0 }, 0, 0, 0, 2, 0 } };
     static const ndef_poster_writing plain = { { 0, 14 }, { 0, 0 }, 0, 0, 0, 0, 0 };
-    uint8_t room[80];
+    uint8_t buffer[80];
     ndef_size count = 77;
-    room[0] = 0xa5;
+    buffer[0] = 0xa5;
     for (size_t i = 0; i < sizeof wrong / sizeof wrong[0]; i++)
-        expect(ndef_write_poster(poster_bytes, POSTER_BYTES, &wrong[i], NULL, 0, NULL, 0, room, sizeof room, &count) == NDEF_BAD_ARGUMENT,
+        expect(ndef_write_poster(poster_bytes, POSTER_BYTES, &wrong[i], NULL, 0, NULL, 0, buffer, sizeof buffer, &count) == NDEF_BAD_ARGUMENT,
                "poster: a wrong number is taken");
     for (int i = 0; i < 4; i++)
-        expect(ndef_write_poster(poster_bytes, POSTER_BYTES, &plain, &titles[i], 1, NULL, 0, room, sizeof room, &count) == NDEF_BAD_ARGUMENT,
+        expect(ndef_write_poster(poster_bytes, POSTER_BYTES, &plain, &titles[i], 1, NULL, 0, buffer, sizeof buffer, &count) == NDEF_BAD_ARGUMENT,
                "poster: a wrong title is taken");
     for (int i = 0; i < 3; i++)
-        expect(ndef_write_poster(poster_bytes, POSTER_BYTES, &plain, NULL, 0, &icons[i], 1, room, sizeof room, &count) == NDEF_BAD_ARGUMENT,
+        expect(ndef_write_poster(poster_bytes, POSTER_BYTES, &plain, NULL, 0, &icons[i], 1, buffer, sizeof buffer, &count) == NDEF_BAD_ARGUMENT,
                "poster: a wrong icon is taken");
-    expect(count == 77 && room[0] == 0xa5, "poster: a wrong argument leaves something else");
+    expect(count == 77 && buffer[0] == 0xa5, "poster: a wrong argument leaves something else");
 }
 
 /* ---- handovers written in one call */
@@ -486,23 +486,23 @@ static void request_written(void) {
     static const uint8_t plain[] = { 0x10, 0xd1, 2, 2, 'c', 'r', 0xff, 0xff };
     static const ndef_alternative_writing two[2] = { { 2, 1, 3 }, { 0, 2, 1 } };
     static const ndef_alternative_writing wrong[] = { { 0, 1, 4 }, { 0, 0, 0 }, { 4, 1, 0 }, { 5, 1, 0 }, { 4, 2, 0 }, { 6, 0, 0 } };
-    uint8_t room[40];
+    uint8_t buffer[40];
     ndef_size count = 77;
-    memset(room, 0xa5, sizeof room);
-    expect(ndef_write_request(5, 0x1234, carrier_bytes, CARRIER_BYTES, carrier_parts, 5, two, 2, room, sizeof whole - 1, &count) == NDEF_NO_ROOM
-               && count == sizeof whole && room[0] == 0xa5, "request: another length is needed");
-    expect(ndef_write_request(5, 0x1234, carrier_bytes, CARRIER_BYTES, carrier_parts, 5, two, 2, room, sizeof whole, &count) == NDEF_OK
-               && count == sizeof whole && memcmp(room, whole, sizeof whole) == 0 && room[sizeof whole] == 0xa5, "request: it is another payload");
-    expect(ndef_write_request(0, 65535, NULL, 0, NULL, 0, NULL, 0, room, sizeof room, &count) == NDEF_OK && count == sizeof plain
-               && memcmp(room, plain, sizeof plain) == 0, "request: one without carriers is another payload");
-    count = 77, room[0] = 0xa5;
+    memset(buffer, 0xa5, sizeof buffer);
+    expect(ndef_write_request(5, 0x1234, carrier_bytes, CARRIER_BYTES, carrier_parts, 5, two, 2, buffer, sizeof whole - 1, &count) == NDEF_BUFFER_TOO_SMALL
+               && count == sizeof whole && buffer[0] == 0xa5, "request: another length is needed");
+    expect(ndef_write_request(5, 0x1234, carrier_bytes, CARRIER_BYTES, carrier_parts, 5, two, 2, buffer, sizeof whole, &count) == NDEF_OK
+               && count == sizeof whole && memcmp(buffer, whole, sizeof whole) == 0 && buffer[sizeof whole] == 0xa5, "request: it is another payload");
+    expect(ndef_write_request(0, 65535, NULL, 0, NULL, 0, NULL, 0, buffer, sizeof buffer, &count) == NDEF_OK && count == sizeof plain
+               && memcmp(buffer, plain, sizeof plain) == 0, "request: one without carriers is another payload");
+    count = 77, buffer[0] = 0xa5;
     for (size_t i = 0; i < sizeof wrong / sizeof wrong[0]; i++)
-        expect(ndef_write_request(5, 0, carrier_bytes, CARRIER_BYTES, carrier_parts, 5, &wrong[i], 1, room, sizeof room, &count) == NDEF_BAD_ARGUMENT,
+        expect(ndef_write_request(5, 0, carrier_bytes, CARRIER_BYTES, carrier_parts, 5, &wrong[i], 1, buffer, sizeof buffer, &count) == NDEF_BAD_ARGUMENT,
                "request: a wrong carrier is taken");
-    expect(ndef_write_request(16, 0, carrier_bytes, CARRIER_BYTES, carrier_parts, 5, two, 2, room, sizeof room, &count) == NDEF_BAD_ARGUMENT, "request: version 1.16 is taken");
-    expect(ndef_write_request(5, 65536, carrier_bytes, CARRIER_BYTES, carrier_parts, 5, two, 2, room, sizeof room, &count) == NDEF_BAD_ARGUMENT,
+    expect(ndef_write_request(16, 0, carrier_bytes, CARRIER_BYTES, carrier_parts, 5, two, 2, buffer, sizeof buffer, &count) == NDEF_BAD_ARGUMENT, "request: version 1.16 is taken");
+    expect(ndef_write_request(5, 65536, carrier_bytes, CARRIER_BYTES, carrier_parts, 5, two, 2, buffer, sizeof buffer, &count) == NDEF_BAD_ARGUMENT,
            "request: a number of three octets is taken");
-    expect(count == 77 && room[0] == 0xa5, "request: a wrong argument leaves something else");
+    expect(count == 77 && buffer[0] == 0xa5, "request: a wrong argument leaves something else");
 }
 
 /* A select with a carrier and an error, one with an error alone, and one with neither. */
@@ -513,44 +513,44 @@ static void select_written(void) {
     static const ndef_alternative_writing one[1] = { { 0, 2, 2 } };
     static const ndef_select_writing how = { { 7, 4 }, 2, 1, 2 }, alone = { { 2, 2 }, 15, 1, 255 }, neither = { { 99, 9 }, 0, 0, 999 };
     static const ndef_select_writing wrong[] = { { { 7, 4 }, 16, 1, 2 }, { { 7, 3 }, 2, 1, 2 }, { { 8, 4 }, 2, 1, 2 }, { { 7, 4 }, 2, 2, 2 }, { { 7, 4 }, 2, 1, 256 } };
-    uint8_t room[40];
+    uint8_t buffer[40];
     ndef_size count = 77;
-    memset(room, 0xa5, sizeof room);
-    expect(ndef_write_select(&how, carrier_bytes, CARRIER_BYTES, same, 2, one, 1, room, sizeof whole - 1, &count) == NDEF_NO_ROOM && count == sizeof whole
-               && room[0] == 0xa5, "select: another length is needed");
-    expect(ndef_write_select(&how, carrier_bytes, CARRIER_BYTES, same, 2, one, 1, room, sizeof whole, &count) == NDEF_OK && count == sizeof whole
-               && memcmp(room, whole, sizeof whole) == 0 && room[sizeof whole] == 0xa5, "select: it is another payload");
-    expect(ndef_write_select(&alone, carrier_bytes, CARRIER_BYTES, NULL, 0, NULL, 0, room, sizeof room, &count) == NDEF_OK && count == sizeof error
-               && memcmp(room, error, sizeof error) == 0, "select: an error alone is another payload");
-    expect(ndef_write_select(&neither, NULL, 0, NULL, 0, NULL, 0, room, sizeof room, &count) == NDEF_OK && count == 1 && room[0] == 0x10, "select: the version alone isn't written");
-    count = 77, room[0] = 0xa5;
+    memset(buffer, 0xa5, sizeof buffer);
+    expect(ndef_write_select(&how, carrier_bytes, CARRIER_BYTES, same, 2, one, 1, buffer, sizeof whole - 1, &count) == NDEF_BUFFER_TOO_SMALL && count == sizeof whole
+               && buffer[0] == 0xa5, "select: another length is needed");
+    expect(ndef_write_select(&how, carrier_bytes, CARRIER_BYTES, same, 2, one, 1, buffer, sizeof whole, &count) == NDEF_OK && count == sizeof whole
+               && memcmp(buffer, whole, sizeof whole) == 0 && buffer[sizeof whole] == 0xa5, "select: it is another payload");
+    expect(ndef_write_select(&alone, carrier_bytes, CARRIER_BYTES, NULL, 0, NULL, 0, buffer, sizeof buffer, &count) == NDEF_OK && count == sizeof error
+               && memcmp(buffer, error, sizeof error) == 0, "select: an error alone is another payload");
+    expect(ndef_write_select(&neither, NULL, 0, NULL, 0, NULL, 0, buffer, sizeof buffer, &count) == NDEF_OK && count == 1 && buffer[0] == 0x10, "select: the version alone isn't written");
+    count = 77, buffer[0] = 0xa5;
     for (size_t i = 0; i < sizeof wrong / sizeof wrong[0]; i++)
-        expect(ndef_write_select(&wrong[i], carrier_bytes, CARRIER_BYTES, same, 2, one, 1, room, sizeof room, &count) == NDEF_BAD_ARGUMENT, "select: a wrong number is taken");
-    expect(ndef_write_select(&how, carrier_bytes, CARRIER_BYTES, same, 1, one, 1, room, sizeof room, &count) == NDEF_BAD_ARGUMENT, "select: a wrong carrier is taken");
-    expect(count == 77 && room[0] == 0xa5, "select: a wrong argument leaves something else");
+        expect(ndef_write_select(&wrong[i], carrier_bytes, CARRIER_BYTES, same, 2, one, 1, buffer, sizeof buffer, &count) == NDEF_BAD_ARGUMENT, "select: a wrong number is taken");
+    expect(ndef_write_select(&how, carrier_bytes, CARRIER_BYTES, same, 1, one, 1, buffer, sizeof buffer, &count) == NDEF_BAD_ARGUMENT, "select: a wrong carrier is taken");
+    expect(count == 77 && buffer[0] == 0xa5, "select: a wrong argument leaves something else");
 }
 
 /* ---- remarks */
 
 #if IS_SINCE(0, 3)
-/* Whether a call wrote this text to a room, or ended without a text (NULL). */
-static int wrote(uint32_t status, const uint8_t *room, ndef_size count, const char *text) {
+/* Whether a call wrote this text to a buffer, or ended without a text (NULL). */
+static int wrote(uint32_t status, const uint8_t *buffer, ndef_size count, const char *text) {
     if (!text) return status == NDEF_END && count == 77;
-    return status == NDEF_OK && count == strlen(text) && memcmp(room, text, count) == 0;
+    return status == NDEF_OK && count == strlen(text) && memcmp(buffer, text, count) == 0;
 }
 
 static void field_remark_is(uint32_t name, const char *octets, ndef_size length, const char *text) {
-    uint8_t room[192];
+    uint8_t buffer[192];
     ndef_size count = 77;
-    const uint32_t status = ndef_field_remark(name, (const uint8_t *)octets, length, room, sizeof room, &count);
-    expect(wrote(status, room, count, text), text ? text : "remarks: a field has one");
+    const uint32_t status = ndef_field_warning(name, (const uint8_t *)octets, length, buffer, sizeof buffer, &count);
+    expect(wrote(status, buffer, count, text), text ? text : "remarks: a field has one");
 }
 
 static void record_remark_is(const uint8_t *bytes, ndef_size length, ndef_size index, const char *text) {
-    uint8_t room[192];
+    uint8_t buffer[192];
     ndef_size count = 77;
-    const uint32_t status = ndef_record_remark(bytes, length, index, room, sizeof room, &count);
-    expect(wrote(status, room, count, text), text ? text : "remarks: a record has one");
+    const uint32_t status = ndef_record_warning(bytes, length, index, buffer, sizeof buffer, &count);
+    expect(wrote(status, buffer, count, text), text ? text : "remarks: a record has one");
 }
 
 /* Two ids are the same where all their octets are. */
@@ -588,11 +588,11 @@ static void remarks(void) {
     record_remark_is(twice, sizeof twice - 1, 0, NULL);
     static const uint8_t request[] = { 0xd1, 2, 8, 'H', 'r', 0x12, 0xd1, 2, 2, 'c', 'r', 1, 2 };
     record_remark_is(request, sizeof request, 0, "The request has no alternative carrier (`ac`).");
-    uint8_t room[25];
+    uint8_t buffer[25];
     ndef_size count = 77;
-    expect(ndef_field_remark(NDEF_FIELD_ACTION, (const uint8_t *)"\3", 1, room, 24, &count) == NDEF_NO_ROOM && count == 25, "remarks: a small room");
-    expect(ndef_field_remark(32, NULL, 0, room, sizeof room, &count) == NDEF_BAD_ARGUMENT && count == 25, "remarks: no such name");
-    expect(ndef_field_remark(0, NULL, 0, room, sizeof room, &count) == NDEF_BAD_ARGUMENT && count == 25, "remarks: the name 0");
+    expect(ndef_field_warning(NDEF_FIELD_ACTION, (const uint8_t *)"\3", 1, buffer, 24, &count) == NDEF_BUFFER_TOO_SMALL && count == 25, "remarks: a small buffer");
+    expect(ndef_field_warning(32, NULL, 0, buffer, sizeof buffer, &count) == NDEF_BAD_ARGUMENT && count == 25, "remarks: no such name");
+    expect(ndef_field_warning(0, NULL, 0, buffer, sizeof buffer, &count) == NDEF_BAD_ARGUMENT && count == 25, "remarks: the name 0");
 }
 #else
 static void remarks(void) {}

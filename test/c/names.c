@@ -1,7 +1,8 @@
 /* The names of the headers: the lists and the functions that return strings agree with the constants and with what the
- * library writes to rooms. */
+ * library writes to buffers. */
 #include "ndef.h"
 #include "expect.h"
+#include "since.h"
 
 #include <stdio.h>
 #include <string.h>
@@ -24,42 +25,42 @@ static const char *const fields[] = { NDEF_FIELDS(TEXT) };
 enum { FIELDS = sizeof fields / sizeof fields[0] };
 
 static void try_fields(void) {
-    uint8_t room[31];
+    uint8_t buffer[31];
     for (uint32_t name = 0; name < 300; name++) {
         ndef_size count = 77;
         if (name == 0 || name >= FIELDS) {
-            expect(ndef_field_name(name, room, sizeof room, &count) == NDEF_BAD_ARGUMENT && count == 77,
+            expect(ndef_field_name(name, buffer, sizeof buffer, &count) == NDEF_BAD_ARGUMENT && count == 77,
                    "a number that is no field has a name");
             continue;
         }
         const ndef_size length = strlen(fields[name]);
-        memset(room, 0x77, sizeof room);
-        expect(ndef_field_name(name, room, length - 1, &count) == NDEF_NO_ROOM && count == length && room[0] == 0x77,
-               "a room that is too small for the name of a field is enough");
-        expect(ndef_field_name(name, room, sizeof room, &count) == NDEF_OK && count == length, fields[name]);
-        expect(!memcmp(room, fields[name], length) && (length == sizeof room || room[length] == 0x77), fields[name]);
+        memset(buffer, 0x77, sizeof buffer);
+        expect(ndef_field_name(name, buffer, length - 1, &count) == NDEF_BUFFER_TOO_SMALL && count == length && buffer[0] == 0x77,
+               "a buffer that is too small for the name of a field is enough");
+        expect(ndef_field_name(name, buffer, sizeof buffer, &count) == NDEF_OK && count == length, fields[name]);
+        expect(!memcmp(buffer, fields[name], length) && (length == sizeof buffer || buffer[length] == 0x77), fields[name]);
     }
     expect(FIELDS == 32, "the list has another number of fields");
 }
 
-/* What a call writes to a room is the string of a function, and a number that the call refuses is "unknown". */
+/* What a call writes to a buffer is the string of a function, and a number that the call refuses is "unknown". */
 struct names {
-    uint32_t (*write)(uint32_t number, uint8_t *room, ndef_size size, ndef_size *count);
+    uint32_t (*write)(uint32_t number, uint8_t *buffer, ndef_size size, ndef_size *count);
     const char *(*text)(uint32_t number);
     uint32_t first, last;
     ndef_size most;
 };
 
 static void try_name(const struct names *names, uint32_t number, const char *what) {
-    uint8_t room[80];
+    uint8_t buffer[80];
     const char *text = names->text(number);
     const ndef_size length = strlen(text);
     ndef_size count = 77;
-    memset(room, 0x77, sizeof room);
-    expect(names->write(number, room, sizeof room, &count) == NDEF_OK && count == length, what);
-    expect(length > 0 && length <= names->most && !memcmp(room, text, length) && room[length] == 0x77, what);
-    expect(names->write(number, room, length - 1, &count) == NDEF_NO_ROOM && count == length, what);
-    expect(names->write(number, NULL, 0, &count) == NDEF_NO_ROOM && count == length, what);
+    memset(buffer, 0x77, sizeof buffer);
+    expect(names->write(number, buffer, sizeof buffer, &count) == NDEF_OK && count == length, what);
+    expect(length > 0 && length <= names->most && !memcmp(buffer, text, length) && buffer[length] == 0x77, what);
+    expect(names->write(number, buffer, length - 1, &count) == NDEF_BUFFER_TOO_SMALL && count == length, what);
+    expect(names->write(number, NULL, 0, &count) == NDEF_BUFFER_TOO_SMALL && count == length, what);
     for (uint32_t other = names->first; other < number; other++) expect(strcmp(names->text(other), text) != 0, what);
 }
 
@@ -81,7 +82,7 @@ static void try_names(const struct names *names, const char *what) {
 static void try_strings(void) {
     const struct names reasons = { ndef_reason_name, ndef_reason_text, 1, 25, 16 };
     const struct names sentences = { ndef_reason_sentence, ndef_sentence_text, 1, 25, 70 };
-    const struct names statuses = { ndef_status_name, ndef_status_text, 0, 5, 11 };
+    const struct names statuses = { ndef_status_name, ndef_status_text, 0, 5, IS_SINCE(0, 4) ? 14 : 11 };
     const struct names of_fields = { ndef_field_name, ndef_field_text, 1, 31, 31 };
     try_names(&reasons, "the name of a reason is another");
     try_names(&sentences, "the sentence of a reason is another");
@@ -98,14 +99,14 @@ static void try_version(void) {
 }
 
 int main(void) {
-    uint8_t room[16];
+    uint8_t buffer[16];
     for (uint32_t reason = 0; reason < 300; reason++) {
         ndef_size count = 77;
-        uint32_t status = ndef_reason_name(reason, room, sizeof room, &count);
+        uint32_t status = ndef_reason_name(reason, buffer, sizeof buffer, &count);
         if (reason == 0 || reason >= COUNT)
             expect(status == NDEF_BAD_ARGUMENT && count == 77, "a number that is no reason has a name");
         else
-            expect(status == NDEF_OK && count == strlen(texts[reason]) && !memcmp(room, texts[reason], count),
+            expect(status == NDEF_OK && count == strlen(texts[reason]) && !memcmp(buffer, texts[reason], count),
                    texts[reason]);
     }
     expect(COUNT == 26, "the list has another number of reasons");

@@ -2,43 +2,44 @@
  * and the links of messages. */
 #include "ndef.h"
 #include "expect.h"
+#include "since.h"
 
 #include <string.h>
 
 static void uris(void) {
-    uint8_t room[64], back[64];
+    uint8_t buffer[64], back[64];
     ndef_size count = 0, length = 0;
     ndef_checked why = { 7, 7, 7 };
     const char *uri = "http://www.example.com";
-    expect(ndef_write_uri((const uint8_t *)uri, strlen(uri), room, sizeof room, &count) == NDEF_OK, "a URI isn't written");
-    expect(is(room, count, "\x01" "example.com", 12), "a URI has another payload");
-    expect(ndef_uri(room, count, 0, back, 21, &length, &why) == NDEF_NO_ROOM && length == 22, "another length is needed");
-    expect(ndef_uri(room, count, 0, back, sizeof back, &length, &why) == NDEF_OK, "a URI isn't read");
+    expect(ndef_write_uri((const uint8_t *)uri, strlen(uri), buffer, sizeof buffer, &count) == NDEF_OK, "a URI isn't written");
+    expect(is(buffer, count, "\x01" "example.com", 12), "a URI has another payload");
+    expect(ndef_uri(buffer, count, 0, back, 21, &length, &why) == NDEF_BUFFER_TOO_SMALL && length == 22, "another length is needed");
+    expect(ndef_uri(buffer, count, 0, back, sizeof back, &length, &why) == NDEF_OK, "a URI isn't read");
     expect(is(back, length, uri, strlen(uri)) && why.place == 7, "another URI is read");
     uri = "urn:nfc:x";
-    expect(ndef_write_uri((const uint8_t *)uri, strlen(uri), room, sizeof room, &count) == NDEF_OK, "a name isn't written");
-    expect(is(room, count, "\x23x", 2), "the longest prefix isn't taken");
-    expect(ndef_write_uri((const uint8_t *)"\xff", 1, room, sizeof room, &count) == NDEF_BAD_ARGUMENT, "no UTF-8 is written");
+    expect(ndef_write_uri((const uint8_t *)uri, strlen(uri), buffer, sizeof buffer, &count) == NDEF_OK, "a name isn't written");
+    expect(is(buffer, count, "\x23x", 2), "the longest prefix isn't taken");
+    expect(ndef_write_uri((const uint8_t *)"\xff", 1, buffer, sizeof buffer, &count) == NDEF_BAD_ARGUMENT, "no UTF-8 is written");
     expect(ndef_uri((const uint8_t *)"\x24" "a", 2, 0, back, sizeof back, &length, &why) == NDEF_REFUSED, "a reserved code is read");
     expect(why.place == 0 && why.reason == NDEF_REASON_URI_CODE && why.records == 0, "a reserved code is refused otherwise");
     expect(ndef_uri((const uint8_t *)"\x24" "a", 2, NDEF_STANDARD, back, sizeof back, &length, &why) == NDEF_OK, "the standard reads no reserved code");
     expect(is(back, length, "a", 1), "a reserved code has a prefix");
     expect(ndef_uri((const uint8_t *)"", 0, 0, back, sizeof back, &length, &why) == NDEF_REFUSED, "nothing is a URI");
     expect(why.place == 0 && why.reason == NDEF_REASON_DOES_NOT_FIT, "nothing is refused otherwise");
-    expect(ndef_uri(room, count, 2, back, sizeof back, &length, &why) == NDEF_BAD_ARGUMENT, "an unknown flag is taken");
+    expect(ndef_uri(buffer, count, 2, back, sizeof back, &length, &why) == NDEF_BAD_ARGUMENT, "an unknown flag is taken");
 }
 
 static void texts(void) {
-    uint8_t room[64];
+    uint8_t buffer[64];
     ndef_size count = 0;
     ndef_text_parts parts;
     ndef_checked why = { 7, 7, 7 };
     const uint8_t *hello = (const uint8_t *)"Hello";
     const uint8_t *language = (const uint8_t *)"en";
-    expect(ndef_write_text(language, 2, hello, 5, 0, room, 7, &count) == NDEF_NO_ROOM && count == 8, "another length is needed");
-    expect(ndef_write_text(language, 2, hello, 5, 0, room, sizeof room, &count) == NDEF_OK, "a text isn't written");
-    expect(is(room, count, "\x02" "enHello", 8), "a text has another payload");
-    expect(ndef_text(room, count, &parts, &why) == NDEF_OK && why.place == 7, "a text isn't read");
+    expect(ndef_write_text(language, 2, hello, 5, 0, buffer, 7, &count) == NDEF_BUFFER_TOO_SMALL && count == 8, "another length is needed");
+    expect(ndef_write_text(language, 2, hello, 5, 0, buffer, sizeof buffer, &count) == NDEF_OK, "a text isn't written");
+    expect(is(buffer, count, "\x02" "enHello", 8), "a text has another payload");
+    expect(ndef_text(buffer, count, &parts, &why) == NDEF_OK && why.place == 7, "a text isn't read");
     expect(parts.language_at == 1 && parts.language_length == 2 && parts.text_at == 3 && parts.text_length == 5 && parts.utf16 == 0,
            "the parts lie elsewhere");
     expect(ndef_text((const uint8_t *)"\x80\xfe\xff\0a", 5, &parts, &why) == NDEF_OK, "UTF-16 isn't read");
@@ -47,9 +48,9 @@ static void texts(void) {
     expect(why.place == 0 && why.reason == NDEF_REASON_TEXT_BIT && parts.utf16 == 1, "a reserved bit is refused otherwise");
     expect(ndef_text((const uint8_t *)"\x02" "en\xff", 4, &parts, &why) == NDEF_REFUSED && why.place == 3 && why.reason == NDEF_REASON_UTF8,
            "no UTF-8 is read");
-    expect(ndef_write_text((const uint8_t *)"\xc3\xa9", 2, hello, 5, 0, room, sizeof room, &count) == NDEF_BAD_ARGUMENT, "no ASCII is written");
-    expect(ndef_write_text(room, 64, hello, 5, 0, room, 0, &count) == NDEF_BAD_ARGUMENT, "a long language code is written");
-    expect(ndef_write_text(language, 2, (const uint8_t *)"\xc3", 1, 0, room, sizeof room, &count) == NDEF_BAD_ARGUMENT, "no UTF-8 is written");
+    expect(ndef_write_text((const uint8_t *)"\xc3\xa9", 2, hello, 5, 0, buffer, sizeof buffer, &count) == NDEF_BAD_ARGUMENT, "no ASCII is written");
+    expect(ndef_write_text(buffer, 64, hello, 5, 0, buffer, 0, &count) == NDEF_BAD_ARGUMENT, "a long language code is written");
+    expect(ndef_write_text(language, 2, (const uint8_t *)"\xc3", 1, 0, buffer, sizeof buffer, &count) == NDEF_BAD_ARGUMENT, "no UTF-8 is written");
 }
 
 /* "a", U+00E9, U+20AC and U+1F600, in each encoding */
@@ -59,18 +60,18 @@ static const char narrow[] = "a\xc3\xa9\xe2\x82\xac\xf0\x9f\x98\x80";
 
 /* The payload of a text with the language code "en", and what it is in UTF-8. */
 static void converted(uint8_t status, const char *mark, const char *text, ndef_size length, const char *what) {
-    uint8_t payload[32] = { status, 'e', 'n' }, room[32];
+    uint8_t payload[32] = { status, 'e', 'n' }, buffer[32];
     ndef_size count = 0, front = 3 + strlen(mark);
     ndef_checked why = { 7, 7, 7 };
     memcpy(payload + 3, mark, front - 3);
     memcpy(payload + front, text, length);
-    expect(ndef_text_in_utf8(payload, front + length, room, 9, &count, &why) == NDEF_NO_ROOM && count == 10, what);
-    expect(ndef_text_in_utf8(payload, front + length, room, sizeof room, &count, &why) == NDEF_OK && why.place == 7, what);
-    expect(is(room, count, narrow, 10), what);
+    expect(ndef_text_in_utf8(payload, front + length, buffer, 9, &count, &why) == NDEF_BUFFER_TOO_SMALL && count == 10, what);
+    expect(ndef_text_in_utf8(payload, front + length, buffer, sizeof buffer, &count, &why) == NDEF_OK && why.place == 7, what);
+    expect(is(buffer, count, narrow, 10), what);
 }
 
 static void conversions(void) {
-    uint8_t room[32];
+    uint8_t buffer[32];
     ndef_size count = 77;
     ndef_checked why = { 7, 7, 7 };
     const uint8_t *language = (const uint8_t *)"en";
@@ -78,30 +79,30 @@ static void conversions(void) {
     converted(0x82, "", wide, 10, "UTF-16 with no mark is read otherwise");
     converted(0x82, "\xfe\xff", wide, 10, "UTF-16 behind its mark is read otherwise");
     converted(0x82, "\xff\xfe", little, 10, "little-endian UTF-16 is read otherwise");
-    expect(ndef_text_in_utf8((const uint8_t *)"\x80\xfe\xff", 3, room, 0, &count, &why) == NDEF_OK && count == 0, "no text is read otherwise");
+    expect(ndef_text_in_utf8((const uint8_t *)"\x80\xfe\xff", 3, buffer, 0, &count, &why) == NDEF_OK && count == 0, "no text is read otherwise");
     count = 77;
-    expect(ndef_text_in_utf8((const uint8_t *)"\x80\xdc\0", 3, room, sizeof room, &count, &why) == NDEF_REFUSED && count == 77,
+    expect(ndef_text_in_utf8((const uint8_t *)"\x80\xdc\0", 3, buffer, sizeof buffer, &count, &why) == NDEF_REFUSED && count == 77,
            "half a pair is read");
     expect(why.place == 1 && why.reason == NDEF_REASON_UTF16 && why.records == 0, "half a pair is refused otherwise");
-    expect(ndef_write_text(language, 2, (const uint8_t *)narrow, 10, NDEF_AS_UTF16, room, 14, &count) == NDEF_NO_ROOM && count == 15,
+    expect(ndef_write_text(language, 2, (const uint8_t *)narrow, 10, NDEF_AS_UTF16, buffer, 14, &count) == NDEF_BUFFER_TOO_SMALL && count == 15,
            "UTF-16 needs another length");
-    expect(ndef_write_text(language, 2, (const uint8_t *)narrow, 10, NDEF_AS_UTF16, room, sizeof room, &count) == NDEF_OK, "UTF-16 isn't written");
-    expect(is(room, 5, "\x82" "en\xfe\xff", 5) && is(room + 5, count - 5, wide, 10), "UTF-16 has another payload");
-    expect(ndef_write_text(language, 2, (const uint8_t *)narrow, 10, 2, room, sizeof room, &count) == NDEF_BAD_ARGUMENT, "an unknown flag is taken");
+    expect(ndef_write_text(language, 2, (const uint8_t *)narrow, 10, NDEF_AS_UTF16, buffer, sizeof buffer, &count) == NDEF_OK, "UTF-16 isn't written");
+    expect(is(buffer, 5, "\x82" "en\xfe\xff", 5) && is(buffer + 5, count - 5, wide, 10), "UTF-16 has another payload");
+    expect(ndef_write_text(language, 2, (const uint8_t *)narrow, 10, 2, buffer, sizeof buffer, &count) == NDEF_BAD_ARGUMENT, "an unknown flag is taken");
 }
 
 static void carriers(void) {
-    uint8_t room[64];
+    uint8_t buffer[64];
     ndef_size count = 0;
     ndef_carrier_parts parts;
     ndef_checked why = { 7, 7, 7 };
     const uint8_t *type = (const uint8_t *)"text/plain";
     const uint8_t *data = (const uint8_t *)"abc";
-    expect(ndef_write_carrier(2, type, 10, data, 3, room, 14, &count) == NDEF_NO_ROOM && count == 15, "another length is needed");
-    expect(ndef_write_carrier(2, type, 10, data, 3, room, sizeof room, &count) == NDEF_OK, "a carrier isn't written");
-    expect(is(room, count, "\x02\x0a" "text/plainabc", 15), "a carrier has another payload");
-    room[0] |= 0xf8;
-    expect(ndef_carrier(room, count, &parts, &why) == NDEF_OK && why.place == 7, "a carrier isn't read");
+    expect(ndef_write_carrier(2, type, 10, data, 3, buffer, 14, &count) == NDEF_BUFFER_TOO_SMALL && count == 15, "another length is needed");
+    expect(ndef_write_carrier(2, type, 10, data, 3, buffer, sizeof buffer, &count) == NDEF_OK, "a carrier isn't written");
+    expect(is(buffer, count, "\x02\x0a" "text/plainabc", 15), "a carrier has another payload");
+    buffer[0] |= 0xf8;
+    expect(ndef_carrier(buffer, count, &parts, &why) == NDEF_OK && why.place == 7, "a carrier isn't read");
     expect(parts.format == 2 && parts.type_at == 2 && parts.type_length == 10 && parts.data_at == 12 && parts.data_length == 3,
            "the parts of a carrier lie elsewhere");
     expect(ndef_carrier((const uint8_t *)"\x01\x00", 2, &parts, &why) == NDEF_OK && parts.format == 1 && parts.type_length == 0
@@ -109,10 +110,10 @@ static void carriers(void) {
     parts.format = 7;
     expect(ndef_carrier((const uint8_t *)"\x01\x03" "ab", 4, &parts, &why) == NDEF_REFUSED && parts.format == 7, "a type beyond the end is read");
     expect(why.place == 1 && why.reason == NDEF_REASON_DOES_NOT_FIT && why.records == 0, "a type beyond the end is refused otherwise");
-    expect(ndef_write_carrier(8, type, 10, data, 3, room, sizeof room, &count) == NDEF_BAD_ARGUMENT, "a format of four bits is written");
+    expect(ndef_write_carrier(8, type, 10, data, 3, buffer, sizeof buffer, &count) == NDEF_BAD_ARGUMENT, "a format of four bits is written");
     uint8_t longest[256] = { 0 };
-    expect(ndef_write_carrier(2, longest, 256, data, 3, room, 0, &count) == NDEF_BAD_ARGUMENT, "a long type is written");
-    expect(ndef_write_carrier(2, longest, 255, data, 3, room, 0, &count) == NDEF_NO_ROOM && count == 260, "a type of 255 bytes isn't written");
+    expect(ndef_write_carrier(2, longest, 256, data, 3, buffer, 0, &count) == NDEF_BAD_ARGUMENT, "a long type is written");
+    expect(ndef_write_carrier(2, longest, 255, data, 3, buffer, 0, &count) == NDEF_BUFFER_TOO_SMALL && count == 260, "a type of 255 bytes isn't written");
 }
 
 static void alternatives(void) {
@@ -211,7 +212,7 @@ static void links(void) {
 static void posters(void) {
     ndef_poster_parts parts;
     ndef_checked why = { 7, 7, 7 };
-    uint8_t room[64];
+    uint8_t buffer[64];
     ndef_size count = 0;
     /* "T" en Hi, "act" 1, "U" http://www.a, "s" 65536, "act" 0 */
     static const uint8_t poster[] = { 0x91, 1, 5, 'T', 2, 'e', 'n', 'H', 'i', 0x11, 3, 1, 'a', 'c', 't', 1, 0x11, 1, 2, 'U', 1, 'a',
@@ -219,8 +220,8 @@ static void posters(void) {
     expect(ndef_poster(poster, sizeof poster, 0, &parts, &why) == NDEF_OK && why.place == 7, "a poster isn't read");
     expect(parts.uri_at == 20 && parts.uri_length == 2, "the URI of a poster lies elsewhere");
     expect(parts.has_action == 1 && parts.action == 1 && parts.has_size == 1 && parts.size == 65536, "a poster says something else");
-    expect(ndef_uri(poster + parts.uri_at, parts.uri_length, 0, room, sizeof room, &count, &why) == NDEF_OK, "the URI of a poster isn't read");
-    expect(is(room, count, "http://www.a", 12), "the URI of a poster is another one");
+    expect(ndef_uri(poster + parts.uri_at, parts.uri_length, 0, buffer, sizeof buffer, &count, &why) == NDEF_OK, "the URI of a poster isn't read");
+    expect(is(buffer, count, "http://www.a", 12), "the URI of a poster is another one");
     const uint8_t *least = (const uint8_t *)"\xd1\x01\x02U\x00" "a";
     expect(ndef_poster(least, 6, 0, &parts, &why) == NDEF_OK && parts.uri_at == 4 && parts.uri_length == 2, "the least poster isn't read");
     expect(!parts.has_action && !parts.action && !parts.has_size && !parts.size, "the least poster says something");

@@ -2,6 +2,7 @@
  * 1.0, RTD URI 1.0, RTD Smart Poster 1.0 and Connection Handover 1.2 lay them out: their names and lengths, with a `>`
  * before those of a message within a payload. */
 #include "ndef.h"
+#include "since.h"
 
 #include <stdio.h>
 #include <stdlib.h>
@@ -162,7 +163,7 @@ static void try(const char *digits, const char *wanted) {
     ndef_limits limits;
     ndef_checked checked = { 77, 77, 77 }, why = { 77, 77, 77 };
     row = digits;
-    ndef_usual_limits(&limits);
+    ndef_default_limits(&limits);
     memset(fields, 0x5a, sizeof fields);
     const ndef_field mark = fields[0];
     const uint32_t status = ndef_check(bytes, length, &limits, &checked);
@@ -175,13 +176,13 @@ static void try(const char *digits, const char *wanted) {
     step(bytes, length, &limits, fields, count, &checked);
     if (count > 0) {
         memset(fields, 0x5a, sizeof fields), memset(&why, 77, sizeof why);
-        expect(ndef_fields(bytes, length, &limits, fields, count - 1, &again, &why) == NDEF_NO_ROOM && again == count,
+        expect(ndef_fields(bytes, length, &limits, fields, count - 1, &again, &why) == NDEF_BUFFER_TOO_SMALL && again == count,
                "an array that is one short is enough");
         expect(same(&fields[0], &mark) && same(&fields[count - 1], &mark), "a small array is written");
         expect(is_why(&why, checked.place, checked.records, checked.reason), "a small array tells another check");
         expect(ndef_fields(bytes, length, &limits, fields, count, &again, &why) == status && again == count,
                "an array that fits isn't enough");
-        expect(ndef_fields(bytes, length, &limits, NULL, 0, &again, &why) == NDEF_NO_ROOM && again == count,
+        expect(ndef_fields(bytes, length, &limits, NULL, 0, &again, &why) == NDEF_BUFFER_TOO_SMALL && again == count,
                "no array is enough");
     }
     free(bytes);
@@ -221,7 +222,7 @@ static void joined_payloads(void) {
         expect(same(&fields[count], &mark), "an element behind them is written");
         memset(fields, 0x5a, sizeof fields);
         if (count > 0)
-            expect(ndef_payload_fields(payloads[i].tnf, type, type_length, bytes, length, fields, count - 1, &again) == NDEF_NO_ROOM
+            expect(ndef_payload_fields(payloads[i].tnf, type, type_length, bytes, length, fields, count - 1, &again) == NDEF_BUFFER_TOO_SMALL
                    && again == count && same(&fields[0], &mark), "an array that is one short is enough");
         again = 77;
         expect(ndef_payload_fields(6, type, type_length, bytes, length, fields, MOST, &again) == NDEF_BAD_ARGUMENT
@@ -278,7 +279,7 @@ int main(void) {
         ndef_field fields[MOST];
         ndef_size count = 7;
         row = refusals[i].digits;
-        ndef_usual_limits(&limits);
+        ndef_default_limits(&limits);
         expect(ndef_fields(bytes, length, &limits, fields, MOST, &count, &why) == NDEF_REFUSED, "it is taken");
         expect(is_why(&why, refusals[i].place, 0, refusals[i].reason), "it is refused elsewhere");
         free(bytes);

@@ -1,6 +1,6 @@
 #!/usr/bin/env python3
 """test/c/promises.py LIBRARY INTERFACE [TRIES]: makes each call of a shared library with random arguments, 2000 times without the word, as INTERFACE
-(share/interface.json, or that of the release in dist/) describes it, and looks whether the library keeps what the comments of include/ndef.h promise of all calls:
+(packaging/share/interface.json, or that of the release in dist/) describes it, and looks whether the library keeps what the comments of include/ndef.h promise of all calls:
 which statuses a call answers, what it writes with each of them, and what it leaves as it was. What is expected is read from the words of the header. A sentence of
 the header that promises such a thing, and is none of those that are looked at here, fails. Prints 'N passed, M failed'."""
 import collections
@@ -15,8 +15,8 @@ import sys
 sys.path.insert(0, str(pathlib.Path(__file__).resolve().parents[1]))
 from harness import TOP, count, finish  # noqa: E402
 
-OK, REFUSED, NO_ROOM, BAD_ARGUMENT, END, MORE = range(6)
-STATUSES = ('NDEF_OK', 'NDEF_REFUSED', 'NDEF_NO_ROOM', 'NDEF_BAD_ARGUMENT', 'NDEF_END', 'NDEF_MORE')
+OK, REFUSED, BUFFER_TOO_SMALL, BAD_ARGUMENT, END, MORE = range(6)
+STATUSES = ('NDEF_OK', 'NDEF_REFUSED', 'NDEF_BUFFER_TOO_SMALL', 'NDEF_BAD_ARGUMENT', 'NDEF_END', 'NDEF_MORE')
 ROOM, MARGIN = 600, 8
 HEADER = (TOP / 'include/ndef.h').read_text()
 COMMENTS = [re.sub(r'\s+', ' ', re.sub(r'\n \*', '\n', found)) for found in re.findall(r'/\*(.*?)\*/', HEADER, re.S)]
@@ -88,7 +88,7 @@ class Library:
         kind = parameter['type'].replace('const ', '').rstrip(' *')
         if role == 'length':
             of = before[-1]
-            return dice.choice((0, 1, 3, 20, ROOM)) if of[0] == 'room' else len(of[1]) // of[2]
+            return dice.choice((0, 1, 3, 20, ROOM)) if of[0] == 'buffer' else len(of[1]) // of[2]
         if role == 'value':
             return dice.choice(VALUES.get(name, NUMBERS))
         if role == 'array' and kind == 'uint8_t':
@@ -105,8 +105,8 @@ class Library:
         made = {}
         for parameter in call['parameters']:
             name, role, given = parameter['name'], parameter['role'], arguments[parameter['name']]
-            if role in ('out', 'room'):
-                size = self.size(parameter['type']) * (arguments['size'] + MARGIN if role == 'room' else 1)
+            if role in ('out', 'buffer'):
+                size = self.size(parameter['type']) * (arguments['capacity'] + MARGIN if role == 'buffer' else 1)
                 made[name] = ctypes.create_string_buffer(bytes([fill]) * size, size)
             elif isinstance(given, bytes):
                 made[name] = ctypes.create_string_buffer(given, max(1, len(given)))
@@ -135,43 +135,43 @@ class Promises:
     """What the header says that a call writes."""
 
     def __init__(self):
-        found = re.search(r'With NDEF_BAD_ARGUMENT and NDEF_END the call has written nothing \(but (\w+) has written its (\w+)\); with NDEF_NO_ROOM it has written (.+?)\. '
+        found = re.search(r'With NDEF_BAD_ARGUMENT and NDEF_END the call has written nothing \(but (\w+) has written its (\w+)\); with NDEF_BUFFER_TOO_SMALL it has written (.+?)\. '
                           r'Where the array is too small or there is no field, (.+?) have written \*(\w+) as well, and (ndef_\w+), which has no count, \*(\w+)\.', SAID)
         self.beside = {found[1]: found[2]}
         self.without_room = {found[3].split()[0].lstrip('*')} if found[3].startswith('*') else set()
-        self.with_why = {name: found[5] for name in re.findall(r'ndef_\w+', found[4])}
+        self.with_refusal = {name: found[5] for name in re.findall(r'ndef_\w+', found[4])}
         self.without_count = {found[6]: found[7]}
-        self.is_why_kept = 'With NDEF_OK it leaves `why` unchanged.' in SAID
+        self.is_refusal_kept = 'With NDEF_OK it leaves `refusal` unchanged.' in SAID
         told = re.search(r'NDEF_MORE = \d+ +/\*.*?\((ndef_\w+) alone\) \*/', HEADER)
         self.of_more = {told[1]} if told else None
         self.refused_records = re.search(r'uint32_t records; +/\* the number of records; if refused, (\d+) \*/', HEADER)
 
     def may_write(self, call, status):
         """The parameters that a call may write when it answers with a status."""
-        name, all_of = call['name'], {one['name'] for one in call['parameters'] if one['role'] in ('out', 'room', 'change')}
-        rooms = {one['name'] for one in call['parameters'] if one['role'] == 'room'}
+        name, all_of = call['name'], {one['name'] for one in call['parameters'] if one['role'] in ('out', 'buffer', 'change')}
+        rooms = {one['name'] for one in call['parameters'] if one['role'] == 'buffer'}
         if status == BAD_ARGUMENT:
             return {self.beside[name]} if name in self.beside else set()
-        if status == NO_ROOM and name in self.without_count:
+        if status == BUFFER_TOO_SMALL and name in self.without_count:
             return {self.without_count[name]}
-        if status in (END, NO_ROOM):
-            return (self.without_room if status == NO_ROOM else set()) | ({self.with_why[name]} & all_of if name in self.with_why else set())
+        if status in (END, BUFFER_TOO_SMALL):
+            return (self.without_room if status == BUFFER_TOO_SMALL else set()) | ({self.with_refusal[name]} & all_of if name in self.with_refusal else set())
         if status == REFUSED and name != 'ndef_fields':
-            return {'why'} if 'why' in all_of else all_of - rooms
-        if status == OK and 'why' in all_of and name not in self.with_why and self.is_why_kept:
-            return all_of - {'why'}
+            return {'refusal'} if 'refusal' in all_of else all_of - rooms
+        if status == OK and 'refusal' in all_of and name not in self.with_refusal and self.is_refusal_kept:
+            return all_of - {'refusal'}
         return all_of
 
 
 def needed(library, name, arguments, written, memory, status):
-    """What is wrong with what a call says of sizes: with NDEF_NO_ROOM the size that is needed, else that nothing after what it wrote has changed."""
-    room = next((one for one in library.calls[name]['parameters'] if one['role'] == 'room'), None)
-    if room is None or not (written['count'] if 'count' in memory else status in (OK, NO_ROOM)):
+    """What is wrong with what a call says of sizes: with NDEF_BUFFER_TOO_SMALL the size that is needed, else that nothing after what it wrote has changed."""
+    room = next((one for one in library.calls[name]['parameters'] if one['role'] == 'buffer'), None)
+    if room is None or not (written['count'] if 'count' in memory else status in (OK, BUFFER_TOO_SMALL)):
         return
     size, told = library.size(room['type']), int.from_bytes(memory['count'].raw[:8] if 'count' in memory else memory['out'].raw[8:12], 'little')
-    if status == NO_ROOM and told <= arguments['size']:
+    if status == BUFFER_TOO_SMALL and told <= arguments['capacity']:
         yield 'the size that is needed is there'
-    if status != NO_ROOM and (told > arguments['size'] or written[room['name']] > told * size):
+    if status != BUFFER_TOO_SMALL and (told > arguments['capacity'] or written[room['name']] > told * size):
         yield 'more is written than *count says'
 
 
@@ -187,8 +187,8 @@ def wrong_of(library, promises, name, dice, seen):
     changed = {at for at, end in written.items() if end}
     if changed - promises.may_write(call, status):
         yield f'{name}: with {STATUSES[status]} it has written {sorted(changed - promises.may_write(call, status))}'
-    if status == NO_ROOM and changed != promises.may_write(call, status):
-        yield f'{name}: with NDEF_NO_ROOM it has written {sorted(changed)}'
+    if status == BUFFER_TOO_SMALL and changed != promises.may_write(call, status):
+        yield f'{name}: with NDEF_BUFFER_TOO_SMALL it has written {sorted(changed)}'
     of_refusal = next((one['name'] for one in call['parameters'] if one['type'] == 'ndef_checked *'), None)
     if status == REFUSED and of_refusal and int.from_bytes(memory[of_refusal].raw[8:12], 'little') != int(promises.refused_records[1]):
         yield f'{name}: refused, and records is {memory[of_refusal].raw[8:12].hex()}'
@@ -200,26 +200,26 @@ def wrong_of(library, promises, name, dice, seen):
 # Sentences of the header that promise what a call writes or leaves, each looked at above.
 LOOKED_AT = (
     'With NDEF_BAD_ARGUMENT and NDEF_END the call has written nothing (but ndef_begin has written its checker);',
-    'with NDEF_NO_ROOM it has written *count alone.',
-    'Where the array is too small or there is no field, ndef_fields, ndef_field_at and ndef_next_field have written *why as well, and ndef_items, which has no count, *out.',
+    'with NDEF_BUFFER_TOO_SMALL it has written *count alone.',
+    'Where the array is too small or there is no field, ndef_fields, ndef_field_at and ndef_next_field have written *refusal as well, and ndef_items, which has no count, *out.',
     'the items are unchanged.',
     'those after them are unchanged.',
-    'Where the buffer is too small, the answer is NDEF_NO_ROOM and *count has the size that is needed:',
+    'Where the buffer is too small, the answer is NDEF_BUFFER_TOO_SMALL and *count has the size that is needed:',
     'the buffer is too small, and unchanged;',
     '*count has the size that is needed',
     'the bytes so far begin a message, and more must follow (ndef_feed alone)',
     'if refused, 0',
     'After these two the buffer and *count are unchanged.',
-    'With NDEF_OK it leaves `why` unchanged.',
-    'why->place and why->reason say where in the payload and why, why->records is 0, and nothing else is written.',
-    'Where the array is too small, the answer is NDEF_NO_ROOM, *count has the size that is needed, and the array is unchanged:',
+    'With NDEF_OK it leaves `refusal` unchanged.',
+    'refusal->place and refusal->reason say where in the payload and why, refusal->records is 0, and nothing else is written.',
+    'Where the array is too small, the answer is NDEF_BUFFER_TOO_SMALL, *count has the size that is needed, and the array is unchanged:',
     'Elements after *count are unchanged.',
-    '*count has the size that is needed, *why says the rest, and the array is unchanged.',
+    '*count has the size that is needed, *refusal says the rest, and the array is unchanged.',
     'After either, `out` is unchanged.',
     '`out` is unchanged.',
     'After either, the field is unchanged.',
     'Bytes of the buffer after it are unchanged.',
-    'the buffer and `built` are unchanged.',
+    'the buffer and `builder` are unchanged.',
 )
 PROMISING = re.compile(r'unchanged|(?:has|have) written|nothing else|leaves|\balone\)|if refused, \d|size that is needed')
 

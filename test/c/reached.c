@@ -3,6 +3,7 @@
  * outside their bytes, and payloads of more bytes than PAYLOAD_LENGTH can say (NDEF 1.0, 3.2.5). */
 #define _DEFAULT_SOURCE
 #include "ndef.h"
+#include "since.h"
 
 #include <stdio.h>
 #include <stdlib.h>
@@ -11,7 +12,7 @@
 
 enum { MOST = 1 << 16 };
 static int failed;
-static uint8_t payload[MOST], message[MOST], room[MOST];
+static uint8_t payload[MOST], message[MOST], buffer[MOST];
 
 static void expect(int holds, const char *what, unsigned long long first, unsigned long long second) {
     if (holds) return;
@@ -31,7 +32,7 @@ static int is_checked(size_t length, uint64_t place, uint32_t reason) {
     ndef_checker bytes, halves;
     ndef_checked told;
     uint32_t status;
-    ndef_usual_limits(&limits);
+    ndef_default_limits(&limits);
     status = ndef_check(message, length, &limits, &told);
     if (!is_answer(status, &told, reason ? place : length, reason)) return 0;
     ndef_begin(&limits, &bytes), ndef_begin(&limits, &halves);
@@ -122,7 +123,7 @@ static void sequence(const char *octets, size_t length, int place) {
             memcpy(payload, "\2en", 3);
             put_letters(3, whole[i], at, octets, length);
             both("T", 3 + whole[i], place < 0 ? 0 : 3 + at + (size_t)place, place < 0 ? 0 : NDEF_REASON_UTF8, "a sequence of UTF-8 is answered in another way");
-            const uint32_t status = ndef_write_uri(payload + 3, whole[i], room, sizeof room, &count);
+            const uint32_t status = ndef_write_uri(payload + 3, whole[i], buffer, sizeof buffer, &count);
             expect(status == (place < 0 ? (uint32_t)NDEF_OK : (uint32_t)NDEF_BAD_ARGUMENT), "a sequence of UTF-8 is written in another way", whole[i], at);
         }
 }
@@ -210,10 +211,10 @@ static void link_to(size_t length, size_t place) {
     ndef_write_record((const uint8_t *)"a/b", 3, ids[1], length, NULL, 0, &last, message + count, sizeof message - count, &size);
     count += size;
     ndef_size select_size = 0;
-    ndef_payload(message, count, 0, room, sizeof room, &select_size);
-    expect(ndef_links(message, count, room, select_size, links, 2, &links_count) == NDEF_OK && links_count == 1, "no link", length, place);
+    ndef_payload(message, count, 0, buffer, sizeof buffer, &select_size);
+    expect(ndef_links(message, count, buffer, select_size, links, 2, &links_count) == NDEF_OK && links_count == 1, "no link", length, place);
     expect(links[0].has_record == 1 && links[0].record_index == 2 && links[0].record_at == second, "another record is linked", length, place);
-    expect(ndef_link_at(message, count, room, select_size, 0, &links[1]) == NDEF_OK && links[1].record_at == second, "one link differs", length, place);
+    expect(ndef_link_at(message, count, buffer, select_size, 0, &links[1]) == NDEF_OK && links[1].record_at == second, "one link differs", length, place);
     expect(ndef_find_id(message, count, 0, ids[1], length, &found) == NDEF_OK && found.at == second, "another id is found", length, place);
     expect(ndef_find_id(message, count, 0, ids[0], length, &found) == NDEF_OK && found.at == first, "the first id isn't found", length, place);
 }
@@ -235,14 +236,14 @@ static uint32_t write_poster(ndef_part uri, ndef_part media, ndef_part language,
     const ndef_title_writing title = { language, text, 0 };
     const ndef_icon_writing icon = { type, data };
     ndef_size count = 0;
-    return ndef_write_poster((const uint8_t *)"abcdefghijklmnopqrstuvwxyzabcdefghijklmnopq", TEXT_BYTES, &how, &title, 1, &icon, 1, room, sizeof room, &count);
+    return ndef_write_poster((const uint8_t *)"abcdefghijklmnopqrstuvwxyzabcdefghijklmnopq", TEXT_BYTES, &how, &title, 1, &icon, 1, buffer, sizeof buffer, &count);
 }
 
 static uint32_t write_select(ndef_part data, ndef_part reference) {
     const ndef_select_writing how = { data, 2, 1, 9 };
     const ndef_alternative_writing carrier = { 0, 1, 1 };
     ndef_size count = 0;
-    return ndef_write_select(&how, (const uint8_t *)"abcdefghijklmnopqrstuvwxyzabcdefghijklmnopq", TEXT_BYTES, &reference, 1, &carrier, 1, room, sizeof room, &count);
+    return ndef_write_select(&how, (const uint8_t *)"abcdefghijklmnopqrstuvwxyzabcdefghijklmnopq", TEXT_BYTES, &reference, 1, &carrier, 1, buffer, sizeof buffer, &count);
 }
 
 static void parts(void) {
@@ -267,28 +268,28 @@ static void series(void) {
     const ndef_part references[2] = { { 0, 1 }, { 1, 1 } };
     ndef_size count = 0;
     for (size_t i = 0; i < sizeof taken / sizeof *taken; i++)
-        expect(ndef_write_request(2, 1, (const uint8_t *)"ab", 2, references, 2, &taken[i], 1, room, sizeof room, &count) == NDEF_OK,
+        expect(ndef_write_request(2, 1, (const uint8_t *)"ab", 2, references, 2, &taken[i], 1, buffer, sizeof buffer, &count) == NDEF_OK,
                "references among the parts are refused", i, 0);
     for (size_t i = 0; i < sizeof refused / sizeof *refused; i++)
-        expect(ndef_write_request(2, 1, (const uint8_t *)"ab", 2, references, 2, &refused[i], 1, room, sizeof room, &count) == NDEF_BAD_ARGUMENT,
+        expect(ndef_write_request(2, 1, (const uint8_t *)"ab", 2, references, 2, &refused[i], 1, buffer, sizeof buffer, &count) == NDEF_BAD_ARGUMENT,
                "references that aren't among the parts are taken", i, 0);
 }
 
-/* Appending demands that the last chunk of the room ends a message, and an id of at most 255 bytes (NDEF 1.0, 3.2.4). */
+/* Appending demands that the last chunk of the buffer ends a message, and an id of at most 255 bytes (NDEF 1.0, 3.2.4). */
 static void appended(void) {
     static uint8_t id[256];
     const ndef_writing how = { NDEF_TNF_UNKNOWN, 0, 0 };
-    ndef_built built = { 3, 0, 1 };
+    ndef_message_builder built = { 3, 0, 1 };
     ndef_size count = 0;
     static const uint8_t lasts[] = { 0x90, 0xb0, 0xf0 };
     for (size_t i = 0; i < sizeof lasts; i++) {
-        memcpy(room, "\x90\0\0", 3), room[0] = lasts[i];
-        expect(ndef_append(&built, NULL, 0, NULL, 0, NULL, 0, &how, room, sizeof room, &count) == NDEF_BAD_ARGUMENT, "an open message grows", i, 0);
+        memcpy(buffer, "\x90\0\0", 3), buffer[0] = lasts[i];
+        expect(ndef_append(&built, NULL, 0, NULL, 0, NULL, 0, &how, buffer, sizeof buffer, &count) == NDEF_BAD_ARGUMENT, "an open message grows", i, 0);
     }
-    memcpy(room, "\xd0\0\0", 3);
-    expect(ndef_append_text(&built, id, 256, NULL, 0, NULL, 0, 0, room, sizeof room, &count) == NDEF_BAD_ARGUMENT, "a long id is taken", 0, 0);
-    expect(ndef_append_uri(&built, id, 256, NULL, 0, room, sizeof room, &count) == NDEF_BAD_ARGUMENT, "a long id is taken", 1, 0);
-    expect(ndef_append_text(&built, id, 255, NULL, 0, NULL, 0, 0, room, sizeof room, &count) == NDEF_OK, "an id of 255 bytes is refused", 0, 0);
+    memcpy(buffer, "\xd0\0\0", 3);
+    expect(ndef_append_text(&built, id, 256, NULL, 0, NULL, 0, 0, buffer, sizeof buffer, &count) == NDEF_BAD_ARGUMENT, "a long id is taken", 0, 0);
+    expect(ndef_append_uri(&built, id, 256, NULL, 0, buffer, sizeof buffer, &count) == NDEF_BAD_ARGUMENT, "a long id is taken", 1, 0);
+    expect(ndef_append_text(&built, id, 255, NULL, 0, NULL, 0, 0, buffer, sizeof buffer, &count) == NDEF_OK, "an id of 255 bytes is refused", 0, 0);
 }
 
 static void nothing(void) {
@@ -322,11 +323,11 @@ static void records(void) {
     if (poster == NULL || titles == NULL || carriers == NULL) exit(3);
     for (size_t i = 0; i < MANY; i++) titles[i].language.length = 1, carriers[i] = (ndef_alternative_writing){ 0, 1, 1 };
     expect(ndef_write_poster((const uint8_t *)"a", 1, &how, titles, MANY - 1, NULL, 0, NULL, 0, &count) == NDEF_BAD_ARGUMENT, "65536 records are written", 0, 0);
-    expect(ndef_write_poster((const uint8_t *)"a", 1, &how, titles, MANY - 2, NULL, 0, NULL, 0, &count) == NDEF_NO_ROOM, "65535 records are refused", 0, 0);
+    expect(ndef_write_poster((const uint8_t *)"a", 1, &how, titles, MANY - 2, NULL, 0, NULL, 0, &count) == NDEF_BUFFER_TOO_SMALL, "65535 records are refused", 0, 0);
     expect(ndef_write_request(2, 1, (const uint8_t *)"a", 1, &reference, 1, carriers, MANY - 1, NULL, 0, &count) == NDEF_BAD_ARGUMENT, "65536 records are written", 1, 0);
-    expect(ndef_write_request(2, 1, (const uint8_t *)"a", 1, &reference, 1, carriers, MANY - 2, NULL, 0, &count) == NDEF_NO_ROOM, "65535 records are refused", 1, 0);
-    expect(write_carriers(carriers, MANY, 0) == NDEF_BAD_ARGUMENT && write_carriers(carriers, MANY - 1, 0) == NDEF_NO_ROOM, "carriers of a select", 0, 0);
-    expect(write_carriers(carriers, MANY - 1, 1) == NDEF_BAD_ARGUMENT && write_carriers(carriers, MANY - 2, 1) == NDEF_NO_ROOM, "carriers and an error", 0, 0);
+    expect(ndef_write_request(2, 1, (const uint8_t *)"a", 1, &reference, 1, carriers, MANY - 2, NULL, 0, &count) == NDEF_BUFFER_TOO_SMALL, "65535 records are refused", 1, 0);
+    expect(write_carriers(carriers, MANY, 0) == NDEF_BAD_ARGUMENT && write_carriers(carriers, MANY - 1, 0) == NDEF_BUFFER_TOO_SMALL, "carriers of a select", 0, 0);
+    expect(write_carriers(carriers, MANY - 1, 1) == NDEF_BAD_ARGUMENT && write_carriers(carriers, MANY - 2, 1) == NDEF_BUFFER_TOO_SMALL, "carriers and an error", 0, 0);
     for (size_t most = MANY - 1; most <= MANY; most++) {
         memcpy(poster, "\x91\1\2U\0a", 6);
         for (size_t i = 1; i < most; i++) memcpy(poster + 3 + 3 * i, i + 1 == most ? "\x50\0\0" : "\x10\0\0", 3);
@@ -354,7 +355,7 @@ static void lengths(void) {
     if (sizeof(size_t) < 8) return;
     uint8_t *bytes = mmap(NULL, (size_t)(most + 4096), PROT_READ, MAP_PRIVATE | MAP_ANONYMOUS | MAP_NORESERVE, -1, 0);
     if (bytes == MAP_FAILED) return;
-    const uint32_t status[] = { ndef_text(bytes, most + 1, &text, &why[0]), ndef_uri_view(bytes, most + 1, 0, &uri, &why[1]),
+    const uint32_t status[] = { ndef_text(bytes, most + 1, &text, &why[0]), ndef_split_uri(bytes, most + 1, 0, &uri, &why[1]),
         ndef_carrier(bytes, most + 1, &carrier, &why[2]), ndef_error(bytes, most + 1, &error, &why[3]),
         ndef_alternative(bytes, most + 1, &alternative, &why[4]), ndef_poster(bytes, most + 1, 0, &poster, &why[5]),
         ndef_request(bytes, most + 1, 0, &request, &why[6]), ndef_select(bytes, most + 1, 0, &select, &why[7]),
@@ -365,11 +366,11 @@ static void lengths(void) {
     expect(ndef_references(bytes, most + 1, NULL, 0, &count) == NDEF_BAD_ARGUMENT, "a long carrier has references", 0, 0);
     expect(ndef_links(bytes, 0, bytes, most + 1, NULL, 0, &count) == NDEF_BAD_ARGUMENT, "a long handover has links", 0, 0);
     expect(ndef_write_record(NULL, 0, NULL, 0, bytes, most + 1, &how, NULL, 0, &count) == NDEF_BAD_ARGUMENT, "a long payload is written", 0, 0);
-    expect(ndef_write_record(NULL, 0, NULL, 0, bytes, most, &how, NULL, 0, &count) == NDEF_NO_ROOM && count == most + 6, "the longest payload isn't written", 0, 0);
-    expect(ndef_write_error(9, bytes, most, room, sizeof room, &count) == NDEF_BAD_ARGUMENT, "a long error is written", 0, 0);
-    expect(ndef_write_error(9, bytes, most - 1, NULL, 0, &count) == NDEF_NO_ROOM && count == most, "the longest error isn't written", 0, 0);
+    expect(ndef_write_record(NULL, 0, NULL, 0, bytes, most, &how, NULL, 0, &count) == NDEF_BUFFER_TOO_SMALL && count == most + 6, "the longest payload isn't written", 0, 0);
+    expect(ndef_write_error(9, bytes, most, buffer, sizeof buffer, &count) == NDEF_BAD_ARGUMENT, "a long error is written", 0, 0);
+    expect(ndef_write_error(9, bytes, most - 1, NULL, 0, &count) == NDEF_BUFFER_TOO_SMALL && count == most, "the longest error isn't written", 0, 0);
     expect(ndef_write_carrier(1, bytes, 1, bytes, most - 2, NULL, 0, &count) == NDEF_BAD_ARGUMENT, "a long carrier is written", 0, 0);
-    expect(ndef_write_carrier(1, bytes, 1, bytes, most - 3, NULL, 0, &count) == NDEF_NO_ROOM && count == most, "the longest carrier isn't written", 0, 0);
+    expect(ndef_write_carrier(1, bytes, 1, bytes, most - 3, NULL, 0, &count) == NDEF_BUFFER_TOO_SMALL && count == most, "the longest carrier isn't written", 0, 0);
     /* Icons of one place, of four gigabytes together. */
     const ndef_poster_writing of = { { 0, 1 }, { 0, 0 }, 0, 0, 0, 0, 0 };
     const ndef_icon_writing icons[2] = { { { 0, 1 }, { 0, most / 2 } }, { { 0, 1 }, { 0, most / 2 } } };

@@ -1,6 +1,7 @@
-/* Random messages there and back, fronts and single changes of them, and wild bytes, for a number of rounds. Each room is
+/* Random messages there and back, fronts and single changes of them, and wild bytes, for a number of rounds. Each buffer is
  * a separate block, so that a sanitizer sees a write beyond it. */
 #include "ndef.h"
+#include "since.h"
 
 #include <stdio.h>
 #include <stdlib.h>
@@ -44,20 +45,20 @@ static void random_item(item *it) {
     fill(it->payload, it->payload_length);
 }
 
-static ndef_size write_item(const item *it, uint32_t flags, uint32_t chunk, uint8_t *room, ndef_size size) {
+static ndef_size write_item(const item *it, uint32_t flags, uint32_t chunk, uint8_t *buffer, ndef_size size) {
     ndef_writing how = { it->tnf, flags, chunk };
     ndef_size needed = 0, count = 0;
     uint32_t asked = ndef_write_record(it->type, it->type_length, it->id, it->id_length, it->payload, it->payload_length,
-                                       &how, room, 0, &needed);
-    if (asked != NDEF_NO_ROOM || needed > size) fail("the length needed is another");
-    uint8_t before = room[0];
+                                       &how, buffer, 0, &needed);
+    if (asked != NDEF_BUFFER_TOO_SMALL || needed > size) fail("the length needed is another");
+    uint8_t before = buffer[0];
     asked = ndef_write_record(it->type, it->type_length, it->id, it->id_length, it->payload, it->payload_length, &how,
-                              room, needed - 1, &count);
-    if (asked != NDEF_NO_ROOM || count != needed || room[0] != before) fail("a room that is too small is written");
+                              buffer, needed - 1, &count);
+    if (asked != NDEF_BUFFER_TOO_SMALL || count != needed || buffer[0] != before) fail("a buffer that is too small is written");
     uint8_t *exact = malloc(needed);
     if (ndef_write_record(it->type, it->type_length, it->id, it->id_length, it->payload, it->payload_length, &how, exact,
                           needed, &count) != NDEF_OK || count != needed) fail("a record isn't written");
-    memcpy(room, exact, needed);
+    memcpy(buffer, exact, needed);
     free(exact);
     return needed;
 }
@@ -68,14 +69,14 @@ static void read_items(const item *items, uint32_t count, const uint8_t *bytes, 
     for (uint32_t i = 0; i < count; i++) {
         const item *it = &items[i];
         if (ndef_record_at(bytes, length, at, &record) != NDEF_OK) fail("a record is missing");
-        uint8_t *room = malloc(record.payload_length + 1);
-        if (ndef_payload(bytes, length, at, room, record.payload_length, &size) != NDEF_OK) fail("a payload is missing");
+        uint8_t *buffer = malloc(record.payload_length + 1);
+        if (ndef_payload(bytes, length, at, buffer, record.payload_length, &size) != NDEF_OK) fail("a payload is missing");
         if (record.tnf != it->tnf || record.type_length != it->type_length || record.id_length != it->id_length
             || size != it->payload_length || record.last != (i + 1 == count)
             || memcmp(bytes + record.type_at, it->type, it->type_length)
-            || memcmp(bytes + record.id_at, it->id, it->id_length) || memcmp(room, it->payload, size))
+            || memcmp(bytes + record.id_at, it->id, it->id_length) || memcmp(buffer, it->payload, size))
             fail("another record is read");
-        free(room);
+        free(buffer);
         at = record.end;
     }
     if (at != length || ndef_record_at(bytes, length, at, &record) != NDEF_END) fail("records are left");
@@ -87,9 +88,9 @@ static void walk_any(const uint8_t *bytes, ndef_size length, ndef_size at) {
     ndef_size count = 0;
     for (int i = 0; i < 8 && ndef_record_at(bytes, length, at, &record) == NDEF_OK; i++) {
         if (record.end <= at || record.end > length) fail("a record goes too far");
-        uint8_t *room = malloc(record.payload_length + 1);
-        if (ndef_payload(bytes, length, at, room, record.payload_length, &count) != NDEF_OK) fail("a payload is missing");
-        free(room);
+        uint8_t *buffer = malloc(record.payload_length + 1);
+        if (ndef_payload(bytes, length, at, buffer, record.payload_length, &count) != NDEF_OK) fail("a payload is missing");
+        free(buffer);
         at = record.end;
     }
 }
@@ -156,22 +157,22 @@ static void message_round(void) {
 
 static void wild_round(void) {
     ndef_size length = below(40), size = below(30), count = 0, third = length / 3;
-    uint8_t *bytes = malloc(length + 1), *room = malloc(size + 1);
+    uint8_t *bytes = malloc(length + 1), *buffer = malloc(size + 1);
     ndef_limits limits = { below(50), below(5), below(5), below(5) };
     ndef_writing how = { below(8), below(9), below(4) };
     for (ndef_size i = 0; i < length; i++) bytes[i] = (uint8_t)(below(3) ? below(8) : below(256));
-    memset(room, 0xa5, size);
+    memset(buffer, 0xa5, size);
     check_any(bytes, length, &limits, 0);
     ndef_size at = below(50) ? below((uint32_t)length + 3) : (ndef_size)-1 - below(3);
     walk_any(bytes, length, at);
-    uint32_t status = ndef_payload(bytes, length, at, room, size, &count);
-    for (ndef_size i = status == NDEF_OK ? count : 0; i < size; i++) if (room[i] != 0xa5) fail("a room is written too far");
-    memset(room, 0xa5, size);
-    status = ndef_write_record(bytes, third, bytes + third, third, bytes + 2 * third, length - 2 * third, &how, room, size, &count);
-    for (ndef_size i = status == NDEF_OK ? count : 0; i < size; i++) if (room[i] != 0xa5) fail("a room is written too far");
-    ndef_reason_name(below(30), room, size, &count);
+    uint32_t status = ndef_payload(bytes, length, at, buffer, size, &count);
+    for (ndef_size i = status == NDEF_OK ? count : 0; i < size; i++) if (buffer[i] != 0xa5) fail("a buffer is written too far");
+    memset(buffer, 0xa5, size);
+    status = ndef_write_record(bytes, third, bytes + third, third, bytes + 2 * third, length - 2 * third, &how, buffer, size, &count);
+    for (ndef_size i = status == NDEF_OK ? count : 0; i < size; i++) if (buffer[i] != 0xa5) fail("a buffer is written too far");
+    ndef_reason_name(below(30), buffer, size, &count);
     free(bytes);
-    free(room);
+    free(buffer);
 }
 
 int main(int count, char **words) {

@@ -38,8 +38,8 @@ static ndef_size write_records(char *column, uint32_t form, uint32_t chunk) {
         ndef_size count, type_length = from_hex(words[1], type), id_length = from_hex(words[2], id);
         ndef_writing how = { (uint32_t)atoi(words[0]), form, chunk };
         how.flags |= (end ? 0u : (uint32_t)NDEF_WRITE_FIRST) | (next ? 0u : (uint32_t)NDEF_WRITE_LAST);
-        ndef_size length = from_hex(words[3], payload), room = sizeof written - end;
-        if (ndef_write_record(type, type_length, id, id_length, payload, length, &how, written + end, room, &count) != NDEF_OK)
+        ndef_size length = from_hex(words[3], payload), buffer = sizeof written - end;
+        if (ndef_write_record(type, type_length, id, id_length, payload, length, &how, written + end, buffer, &count) != NDEF_OK)
             return 0;
         end += count;
     }

@@ -55,7 +55,7 @@ static void random_record(record *made) {
 /* What no caller may ask for: it is refused, and neither the buffer nor the writer nor the count is another then. */
 static void ask_wrongly(const record *made, const ndef_writer *writer) {
     ndef_writer asked = *writer;
-    uint8_t room[4] = { 1, 2, 3, 4 };
+    uint8_t buffer[4] = { 1, 2, 3, 4 };
     const uint8_t kept[4] = { 1, 2, 3, 4 };
     ndef_size count = 77, left = made->payload_length - writer->taken, type = made->type_length, id = made->id_length, part = 0;
     uint8_t *longer = calloc(1, left + 1);
@@ -64,9 +64,9 @@ static void ask_wrongly(const record *made, const ndef_writer *writer) {
     case 1: type = type ? type - 1 : 1; break;
     default: id = id ? id - 1 : 1; break;
     }
-    uint32_t status = ndef_writer_next(&asked, made->type, type, made->id, id, longer, part, room, sizeof room, &count);
+    uint32_t status = ndef_writer_next(&asked, made->type, type, made->id, id, longer, part, buffer, sizeof buffer, &count);
     expect(status == NDEF_BAD_ARGUMENT, "another record goes on");
-    expect(count == 77 && memcmp(room, kept, 4) == 0 && memcmp(&asked, writer, sizeof asked) == 0, "a refused call changes something");
+    expect(count == 77 && memcmp(buffer, kept, 4) == 0 && memcmp(&asked, writer, sizeof asked) == 0, "a refused call changes something");
     refused++;
     free(longer);
 }
@@ -75,22 +75,22 @@ static void ask_wrongly(const record *made, const ndef_writer *writer) {
 static uint32_t step(const record *made, ndef_writer *writer, uint8_t *out, ndef_size *length) {
     ndef_size left = made->payload_length - writer->taken, part = below((uint32_t)left + 1), size = below(LARGEST_BUFFER), count = 77;
     if (below(3) == 0 && part > 3) part = below(4);
-    uint8_t *room = malloc(size ? size : 1), *given = malloc(part ? part : 1);
-    memset(room, 0xa5, size);
+    uint8_t *buffer = malloc(size ? size : 1), *given = malloc(part ? part : 1);
+    memset(buffer, 0xa5, size);
     memcpy(given, made->payload + writer->taken, part);
     const ndef_writer before = *writer;
-    uint32_t status = ndef_writer_next(writer, made->type, made->type_length, made->id, made->id_length, given, part, room, size, &count);
+    uint32_t status = ndef_writer_next(writer, made->type, made->type_length, made->id, made->id_length, given, part, buffer, size, &count);
     if (status == NDEF_OK) {
         expect(count <= size && *length + count <= MOST, "more bytes than the buffer has");
-        for (ndef_size i = count; i < size; i++) expect(room[i] == 0xa5, "a byte after the last one is written");
+        for (ndef_size i = count; i < size; i++) expect(buffer[i] == 0xa5, "a byte after the last one is written");
         expect(writer->taken >= before.taken && writer->taken <= before.taken + part, "more is taken than was given");
         expect(count == size || writer->taken == before.taken + part, "a part is left, and space");
-        memcpy(out + *length, room, count);
+        memcpy(out + *length, buffer, count);
         *length += count, steps++, waits += count < size;
     } else {
         expect(count == 77 && memcmp(writer, &before, sizeof before) == 0, "a call that writes nothing changes something");
     }
-    free(room), free(given);
+    free(buffer), free(given);
     return status;
 }
 
@@ -126,11 +126,11 @@ static void one_record(void) {
 static void wrong_record(void) {
     ndef_writing how = { below(8), below(10), below(4) };
     ndef_size type_length = below(3) ? below(3) : 254 + below(3), id_length = below(3) ? below(3) : 254 + below(3), payload_length = below(3);
-    static uint8_t bytes[300], room[1000];
+    static uint8_t bytes[300], buffer[1000];
     ndef_writer writer, kept;
     ndef_size count;
     memset(&writer, 0x5a, sizeof writer), kept = writer;
-    int may = ndef_write_record(bytes, type_length, bytes, id_length, bytes, payload_length, &how, room, sizeof room, &count) == NDEF_OK;
+    int may = ndef_write_record(bytes, type_length, bytes, id_length, bytes, payload_length, &how, buffer, sizeof buffer, &count) == NDEF_OK;
     uint32_t status = ndef_writer_begin(&writer, type_length, id_length, payload_length, &how);
     expect(status == (may ? NDEF_OK : NDEF_BAD_ARGUMENT), "begun otherwise than written");
     expect(may || memcmp(&writer, &kept, sizeof kept) == 0, "what is refused changes the writer");
@@ -139,14 +139,14 @@ static void wrong_record(void) {
 /* Whatever a writer holds, a call answers; and one that goes on leaves a writer that does so too. */
 static void wild_writer(void) {
     ndef_writer writer = { { below(7), below(9), below(4) }, below(4), below(3), below(9), below(9), below(14) };
-    uint8_t bytes[16] = { 0 }, room[8];
+    uint8_t bytes[16] = { 0 }, buffer[8];
     ndef_size count = 0, part = below(9), size = below(9);
-    uint32_t status = ndef_writer_next(&writer, bytes, writer.type_length, bytes, writer.id_length, bytes, part, room, size, &count);
+    uint32_t status = ndef_writer_next(&writer, bytes, writer.type_length, bytes, writer.id_length, bytes, part, buffer, size, &count);
     expect(status == NDEF_OK || status == NDEF_END || status == NDEF_BAD_ARGUMENT, "another answer");
     if (status != NDEF_OK) return;
     taken_wild++;
     expect(count <= size, "a wild writer writes beyond the buffer");
-    status = ndef_writer_next(&writer, bytes, writer.type_length, bytes, writer.id_length, bytes, 0, room, 0, &count);
+    status = ndef_writer_next(&writer, bytes, writer.type_length, bytes, writer.id_length, bytes, 0, buffer, 0, &count);
     expect(status == NDEF_END || (status == NDEF_OK && count == 0), "a writer that a call left doesn't go on");
 }
 #endif

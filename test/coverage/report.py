@@ -88,10 +88,10 @@ def of_python(path):
     figures_of = []
     for name, file in json.loads(pathlib.Path(path).read_text())['files'].items():
         counts = {(line, None): 1 for line in file['executed_lines']} | {(line, None): 0 for line in file['missing_lines']}
-        texts = (TOP / 'python/simbegyor_ndef' / pathlib.Path(name).name).read_text().splitlines()
+        texts = (TOP / 'bindings/python/simbegyor_ndef' / pathlib.Path(name).name).read_text().splitlines()
         for key, count in (('executed_branches', 1), ('missing_branches', 0)):
             counts |= {(start, f'to {branches.plain(texts[end - 1]) if end > 0 else "the end"}'): count for start, end in file[key]}
-        figures_of.append(merged(TOP / 'python/simbegyor_ndef' / pathlib.Path(name).name, counts))
+        figures_of.append(merged(TOP / 'bindings/python/simbegyor_ndef' / pathlib.Path(name).name, counts))
     return added(figures_of)
 
 
@@ -134,12 +134,12 @@ def of_module(source, runs):
 def of_javascript(folder):
     scripts = [script for path in pathlib.Path(folder).glob('*.json') for script in json.loads(path.read_text())['result']]
     figures_of = []
-    for name in (TOP / 'web/package.txt').read_text().split():
+    for name in (TOP / 'bindings/web/package.txt').read_text().split():
         if name.endswith('.js'):
             runs = [script for script in scripts if script['url'].endswith(f'/out/web/{name}')]
             if not runs:
                 sys.exit(f'no run of {name} was measured')
-            figures_of.append(of_module(TOP / 'web' / name, runs))
+            figures_of.append(of_module(TOP / 'bindings/web' / name, runs))
     lines, _, untaken = added(figures_of)
     return lines, {}, untaken
 

@@ -28,10 +28,10 @@ static void posters() {
          is(builder.payload(), "\x91\1\2U\1a\x11\1\4T\2enB\x11\1\7T\x82""de\xFE\xFF\0C\x11\3\1act\1"
                                "\x11\1\4s\0\0\1\2\x11\1\3tt/u\x12\7\2image/x\1\2\x52\7\0video/y"sv));
     std::uint8_t small[5];
-    ndef::room room(small);
-    const auto refused = ndef::poster_builder("a").write(room);
-    test("a poster that has no room", !refused && refused.error().what == NDEF_NO_ROOM && refused.error().needed == 6);
-    test("nothing is taken of the room", room.size() == 5);
+    ndef::buffer buffer(small);
+    const auto refused = ndef::poster_builder("a").write(buffer);
+    test("a poster that has no room", !refused && refused.error().what == NDEF_BUFFER_TOO_SMALL && refused.error().needed == 6);
+    test("nothing is taken of the buffer", buffer.size() == 5);
     const auto wrong = ndef::poster_builder("\xFF").payload();
     test("a URI that isn't UTF-8", !wrong && wrong.error().what == NDEF_BAD_ARGUMENT);
 }
@@ -77,8 +77,8 @@ static void messages() {
     test("no message", !refused && refused.error().why == NDEF_REASON_END_OF_INPUT && refused.error().place == 2);
     test("no records", !ndef::owned_message::write(std::vector<ndef::new_record>()));
     std::ostringstream printed;
-    printed << refused.error() << "; " << ndef::error{NDEF_NO_ROOM, {}, 0, 5};
-    test("errors are printed", printed.str() == "refused at 2: 24 EndOfInput; NoRoom");
+    printed << refused.error() << "; " << ndef::error{NDEF_BUFFER_TOO_SMALL, {}, 0, 5};
+    test("errors are printed", printed.str() == "refused at 2: 24 EndOfInput; " + std::string(ndef::to_string(NDEF_BUFFER_TOO_SMALL)));
 #ifdef __cpp_lib_format
     test("errors are formatted", std::format("{}", refused.error()) == "refused at 2: 24 EndOfInput");
 #endif

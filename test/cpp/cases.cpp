@@ -11,7 +11,7 @@ static_assert(std::ranges::forward_range<ndef::message> && std::ranges::forward_
 static_assert(std::ranges::forward_range<ndef::fields>);
 static_assert(std::ranges::forward_range<ndef::views<ndef::text>>);
 static_assert(std::is_constructible_v<ndef::bytes, std::span<const std::byte>>);
-static_assert(std::is_constructible_v<ndef::room, std::span<std::uint8_t> &>);
+static_assert(std::is_constructible_v<ndef::buffer, std::span<std::uint8_t> &>);
 #endif
 
 static_assert(std::is_convertible_v<std::vector<std::uint8_t>, ndef::bytes>);
@@ -20,8 +20,8 @@ static_assert(std::is_convertible_v<std::string, ndef::bytes> && std::is_convert
 static_assert(std::is_constructible_v<ndef::bytes, const std::uint8_t (&)[4]>);
 static_assert(!std::is_constructible_v<ndef::bytes, const char (&)[4]>);
 static_assert(!std::is_constructible_v<ndef::bytes, std::vector<int>>);
-static_assert(!std::is_constructible_v<ndef::room, const std::vector<std::uint8_t> &>);
-static_assert(ndef::to_string(NDEF_REASON_VERSION) == "Version" && ndef::to_string(NDEF_NO_ROOM) == "NoRoom");
+static_assert(!std::is_constructible_v<ndef::buffer, const std::vector<std::uint8_t> &>);
+static_assert(ndef::to_string(NDEF_REASON_VERSION) == "Version" && ndef::to_string(NDEF_BAD_ARGUMENT) == "BadArgument");
 static_assert(ndef::to_string(static_cast<ndef::reason>(26)).empty());
 static_assert(ndef::to_string(NDEF_FIELD_CARRIER_DATA) == "carrier data");
 static constexpr std::uint8_t two[] = {1, 2};
@@ -59,16 +59,16 @@ static answer in_parts(ndef::bytes input, const ndef_limits &limits, std::size_t
     return {NDEF_REFUSED, NDEF_REASON_END_OF_INPUT, input.size(), 0};
 }
 
-/// Writes the records again, exactly as long as they are and with a room that is one byte short.
+/// Writes the records again, exactly as long as they are and with a buffer that is one byte short.
 static bool is_written_again(ndef::message message, std::size_t count, const ndef_limits &limits) {
     struct { const ndef::new_record *begin_at, *end_at;
         const ndef::new_record *begin() const { return begin_at; }
         const ndef::new_record *end() const { return end_at; } } all = {records, records + count};
-    ndef::room none;
+    ndef::buffer none;
     const auto asked = ndef::write_message(none, all, limits);
-    if (asked || asked.error().what != NDEF_NO_ROOM) return false;
+    if (asked || asked.error().what != NDEF_BUFFER_TOO_SMALL) return false;
     const std::size_t needed = static_cast<std::size_t>(asked.error().needed);
-    ndef::room exact(again, needed), shorter(again, needed - 1);
+    ndef::buffer exact(again, needed), shorter(again, needed - 1);
     const auto failed = ndef::write_message(shorter, all, limits);
     if (failed || failed.error().needed != needed || shorter.size() != needed - 1) return false;
     const auto written = ndef::write_message(exact, all, limits);
@@ -84,10 +84,10 @@ static bool is_written_again(ndef::message message, std::size_t count, const nde
 
 /// Whether the records are those of the words `TNF TYPE ID PAYLOAD`, their payloads joined one behind the other.
 static bool are_records(ndef::message message, const std::vector<std::string> &words, const ndef_limits &limits) {
-    ndef::room room(joined);
+    ndef::buffer buffer(joined);
     std::size_t count = 0;
     for (ndef::record record : message) {
-        const auto payload = record.payload(room);
+        const auto payload = record.payload(buffer);
         if (!payload || count >= words.size()) return false;
         if (record.chunks() > 1 && record.payload_size() != 0 && record.payload().error().needed != payload->size())
             return false;
@@ -127,7 +127,7 @@ static bool are_in_an_array(const ndef::fields &fields, ndef::bytes input, const
     }
     if (index) {
         const auto few = ndef::fields::in(told, index - 1, input, limits);
-        if (few || few.error().what != NDEF_NO_ROOM || few.error().needed != index) return false;
+        if (few || few.error().what != NDEF_BUFFER_TOO_SMALL || few.error().needed != index) return false;
     }
     return index == all->size() && one == fields.end() && allocations == before;
 }
@@ -159,7 +159,7 @@ static bool is_answered(const std::vector<std::string> &fields, bool is_standard
         const auto number = static_cast<std::uint32_t>(std::stoul(words[at + 1]));
         if (words[at] == "payload") limits.payload = number;
         if (words[at] == "records") limits.records = number;
-        if (words[at] == "pieces") limits.pieces = number;
+        if (words[at] == "pieces") limits.NDEF_CHUNKS_MEMBER = number;
     }
     const auto input = from_hex(fields[BYTES]);
     const auto told = split(fields[ANSWER], ' ');

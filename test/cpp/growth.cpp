@@ -12,9 +12,9 @@
 static std::vector<std::uint8_t> memory(1 << 24);
 static bool is_steep;
 
-/// A message of records with these payloads, written to the front of a room.
-static ndef::message message_of(ndef::room &room, const std::vector<ndef::new_record> &records) {
-    return *ndef::write_message(room, records, ndef::unchecked);
+/// A message of records with these payloads, written to the front of a buffer.
+static ndef::message message_of(ndef::buffer &buffer, const std::vector<ndef::new_record> &records) {
+    return *ndef::write_message(buffer, records, ndef::unchecked);
 }
 
 /// The microseconds of processor time of a walk: of five the fewest.
@@ -66,34 +66,34 @@ static void step(ndef::bytes octets) {
 }
 
 static ndef::message texts(std::size_t count) {
-    ndef::room room(memory);
-    return message_of(room, std::vector<ndef::new_record>(count, ndef::well_known("T", std::string_view("\2enHello"))));
+    ndef::buffer buffer(memory);
+    return message_of(buffer, std::vector<ndef::new_record>(count, ndef::well_known("T", std::string_view("\2enHello"))));
 }
 
 /// The payload of a poster with this number of titles, or icons.
 static ndef::poster poster_with(std::size_t count, const ndef::new_record &one) {
-    ndef::room room(memory);
+    ndef::buffer buffer(memory);
     std::vector<ndef::new_record> records(count, one);
     records.push_back(ndef::well_known("U", std::string_view("\1x")));
-    return *ndef::poster::read(message_of(room, records).octets());
+    return *ndef::poster::read(message_of(buffer, records).octets());
 }
 
 /// A request with this number of carriers, and as many records to which they refer.
 struct handover {
     explicit handover(std::size_t count) {
-        ndef::room room(memory);
+        ndef::buffer buffer(memory);
         std::vector<std::string> names(count);
         std::vector<ndef::new_record> carriers = {ndef::well_known("cr", std::string_view("\1\2"))};
         for (std::size_t at = 0; at < count; at++) {
             names[at] = std::to_string(at);
-            const auto carrier = *ndef::write_alternative(room, ndef::power::active, names[at]);
+            const auto carrier = *ndef::write_alternative(buffer, ndef::power::active, names[at]);
             carriers.push_back(ndef::well_known("ac", carrier));
         }
-        const auto inner = message_of(room, carriers).octets();
-        const auto payload = *ndef::write_handover(room, ndef::handover::request, 1, 2, inner);
+        const auto inner = message_of(buffer, carriers).octets();
+        const auto payload = *ndef::write_handover(buffer, ndef::handover::request, 1, 2, inner);
         std::vector<ndef::new_record> records = {ndef::well_known("Hr", payload)};
         for (const std::string &name : names) records.push_back(ndef::media("a/b", payload.part(0, 1), name));
-        whole = message_of(room, records);
+        whole = message_of(buffer, records);
         request = *whole.begin()->as<ndef::request>();
     }
 

@@ -9,7 +9,7 @@
 
 #include <fstream>
 
-static std::uint8_t first_room[1 << 21], second_room[1 << 21];
+static std::uint8_t first_buffer[1 << 21], second_buffer[1 << 21];
 
 /// The flags of a profile, and whether a result is what a call answered.
 static std::uint32_t flags_of(ndef::profile how) { return how == ndef::profile::standard ? NDEF_STANDARD : 0; }
@@ -22,12 +22,12 @@ template <class Result> static bool is_answer(const Result &told, std::uint32_t 
            error.needed == 0;
 }
 
-/// Whether bytes that C++ wrote are those that a call writes: call(room, size, count).
+/// Whether bytes that C++ wrote are those that a call writes: call(buffer, size, count).
 template <class Call> static bool is_written(const ndef::result<ndef::bytes> &told, Call call) {
     ndef_size count = 0;
-    const std::uint32_t answer = call(second_room, ndef_size{sizeof second_room}, &count);
+    const std::uint32_t answer = call(second_buffer, ndef_size{sizeof second_buffer}, &count);
     if (!told) return told.error().what == static_cast<ndef::status>(answer);
-    return answer == NDEF_OK && *told == ndef::bytes(second_room, static_cast<std::size_t>(count));
+    return answer == NDEF_OK && *told == ndef::bytes(second_buffer, static_cast<std::size_t>(count));
 }
 
 static void texts(ndef::bytes payload) {
@@ -39,27 +39,27 @@ static void texts(ndef::bytes payload) {
     LOOK(is_part(told->language(), payload, c.language_at, c.language_length));
     LOOK(is_part(told->encoded(), payload, c.text_at, c.text_length) && told->is_utf16() == (c.utf16 == 1));
     LOOK(is_part(told->payload(), payload, 0, payload.size()));
-    ndef::room room(first_room);
+    ndef::buffer buffer(first_buffer);
     ndef_size count = 0;
-    ndef_text_in_utf8(payload.data(), payload.size(), second_room, sizeof second_room, &count, &why);
-    const ndef::bytes wanted(second_room, static_cast<std::size_t>(count));
-    const auto utf8 = told->utf8(room);
+    ndef_text_in_utf8(payload.data(), payload.size(), second_buffer, sizeof second_buffer, &count, &why);
+    const ndef::bytes wanted(second_buffer, static_cast<std::size_t>(count));
+    const auto utf8 = told->utf8(buffer);
     LOOK(utf8 && ndef::bytes(*utf8) == wanted && ndef::bytes(told->str()) == wanted);
-    LOOK(room.size() == sizeof first_room - (c.utf16 ? wanted.size() : 0));
+    LOOK(buffer.size() == sizeof first_buffer - (c.utf16 ? wanted.size() : 0));
 }
 
 static void uris(ndef::bytes payload, ndef::profile how) {
     ndef_uri_parts c = {};
     ndef_checked why = {};
     const auto told = ndef::uri::read(payload, how);
-    LOOK(is_answer(told, ndef_uri_view(payload.data(), payload.size(), flags_of(how), &c, &why), why));
+    LOOK(is_answer(told, ndef_split_uri(payload.data(), payload.size(), flags_of(how), &c, &why), why));
     if (!told) return;
     LOOK(told->code() == c.code && is_part(told->rest(), payload, c.rest_at, c.rest_length));
-    ndef::room room(first_room);
+    ndef::buffer buffer(first_buffer);
     ndef_size count = 0;
-    ndef_uri(payload.data(), payload.size(), flags_of(how), second_room, sizeof second_room, &count, &why);
-    const ndef::bytes wanted(second_room, static_cast<std::size_t>(count));
-    const auto utf8 = told->utf8(room);
+    ndef_uri(payload.data(), payload.size(), flags_of(how), second_buffer, sizeof second_buffer, &count, &why);
+    const ndef::bytes wanted(second_buffer, static_cast<std::size_t>(count));
+    const auto utf8 = told->utf8(buffer);
     LOOK(utf8 && ndef::bytes(*utf8) == wanted && ndef::bytes(told->str()) == wanted);
 }
 
@@ -173,8 +173,8 @@ template <class View> static void links(const View &view, ndef::bytes whole, nde
         LOOK(!one.has_record || link.record->place() == one.record_at);
     }
     LOOK(at == count && view.links(message).size() == count);
-    static ndef_link room[4096];
-    const auto in = view.links(room, 4096, message);
+    static ndef_link buffer[4096];
+    const auto in = view.links(buffer, 4096, message);
     LOOK(in ? answer == NDEF_OK && in->size() == count : in.error().what == static_cast<ndef::status>(answer));
     LOOK(is_part(view.records().octets(), payload, 1, payload.size() - 1));
 }
@@ -218,9 +218,9 @@ static void payloads(ndef::bytes payload, ndef::bytes whole) {
 /// A record read as a View in each profile: what View::read says of its whole payload, if the record has that type.
 template <class View> static void read_as(const ndef::record &one, ndef::bytes payload) {
     for (ndef::profile how : {ndef::profile::strict, ndef::profile::standard}) {
-        ndef::room room(first_room);
+        ndef::buffer buffer(first_buffer);
         const auto wanted = View::read(payload, how);
-        const auto told = one.as<View>(room, how);
+        const auto told = one.as<View>(buffer, how);
         const auto in_place = one.as<View>(how);
         if (!one.is(View::type_name)) {
             LOOK(!told && told.error().what == NDEF_BAD_ARGUMENT && !in_place &&
@@ -231,16 +231,16 @@ template <class View> static void read_as(const ndef::record &one, ndef::bytes p
                   : !wanted && told.error().place == wanted.error().place && told.error().why == wanted.error().why);
         if (one.payload()) LOOK(in_place.has_value() == wanted.has_value());
         else
-            LOOK(!in_place && in_place.error().what == NDEF_NO_ROOM && in_place.error().needed == payload.size());
+            LOOK(!in_place && in_place.error().what == NDEF_BUFFER_TOO_SMALL && in_place.error().needed == payload.size());
     }
-    ndef::room room(first_room);
-    LOOK(one.as<View>(room).has_value() == one.as<View>(room, ndef::profile::strict).has_value());
+    ndef::buffer buffer(first_buffer);
+    LOOK(one.as<View>(buffer).has_value() == one.as<View>(buffer, ndef::profile::strict).has_value());
     LOOK(one.as<View>().has_value() == one.as<View>(ndef::profile::strict).has_value());
 }
 
 /// A record as ndef_record_at tells it, read as every type.
 static void record(ndef::bytes whole, const ndef::record &one, const ndef_record &c) {
-    LOOK(one.place() == c.at && one.parts().end == c.end && one.is_last() == (c.last == 1) && one.chunks() == c.pieces);
+    LOOK(one.place() == c.at && one.parts().end == c.end && one.is_last() == (c.last == 1) && one.chunks() == c.NDEF_CHUNKS_MEMBER);
     LOOK(one.format() == static_cast<ndef::tnf>(c.tnf) && one.payload_size() == c.payload_length);
     LOOK(is_part(one.type(), whole, c.type_at, c.type_length) && is_part(one.id(), whole, c.id_at, c.id_length));
     LOOK(one.is(one.format(), one.type()) && one.is(one.type()) == (c.tnf == NDEF_TNF_WELL_KNOWN));
@@ -249,13 +249,13 @@ static void record(ndef::bytes whole, const ndef::record &one, const ndef_record
     ndef_size count = 0;
     ndef_payload(whole.data(), whole.size(), c.at, joined, sizeof joined, &count);
     const ndef::bytes payload(joined, static_cast<std::size_t>(count));
-    ndef::room room(first_room);
-    const auto told = one.payload(room);
+    ndef::buffer buffer(first_buffer);
+    const auto told = one.payload(buffer);
     LOOK(told && *told == payload && one.payload_string() == payload.text());
-    LOOK(one.payload().has_value() == (c.pieces == 1 || count == 0));
-    LOOK(one.chunks() == 1 ? room.size() == sizeof first_room : room.size() == sizeof first_room - payload.size());
+    LOOK(one.payload().has_value() == (c.NDEF_CHUNKS_MEMBER == 1 || count == 0));
+    LOOK(one.chunks() == 1 ? buffer.size() == sizeof first_buffer : buffer.size() == sizeof first_buffer - payload.size());
     LOOK(one.payload() ||
-         (one.payload().error().what == NDEF_NO_ROOM && one.payload().error().needed == payload.size()));
+         (one.payload().error().what == NDEF_BUFFER_TOO_SMALL && one.payload().error().needed == payload.size()));
     for (const ndef::kind kind : {NDEF_KIND_OTHER, NDEF_KIND_SMART_POSTER, NDEF_KIND_SELECT, NDEF_KIND_ERROR})
         LOOK(one.kind(kind) ==
              static_cast<ndef::kind>(ndef_kind(whole.data(), whole.size(), &c, static_cast<std::uint32_t>(kind))));
@@ -299,14 +299,14 @@ static void finds(const ndef::message &message, ndef::bytes whole) {
     }
 }
 
-/// The message written again, as ndef_rewrite writes it.
-static void rewrites(const ndef::message &message, ndef::bytes whole) {
+/// The message written again, as ndef_normalize writes it.
+static void normalizes(const ndef::message &message, ndef::bytes whole) {
     const auto octets_of = [](const ndef::message &made) { return made.octets(); };
     for (const std::uint32_t flags : {0, 0 + NDEF_WRITE_LONG}) {
-        ndef::room room(first_room);
-        const auto wanted = [&](auto... to) { return ndef_rewrite(whole.data(), whole.size(), flags, to...); };
-        LOOK(is_written(ndef::rewrite(room, message, flags != 0).transform(octets_of), wanted));
-        if (!flags) LOOK(is_written(ndef::rewrite(room, message).transform(octets_of), wanted));
+        ndef::buffer buffer(first_buffer);
+        const auto wanted = [&](auto... to) { return ndef_normalize(whole.data(), whole.size(), flags, to...); };
+        LOOK(is_written(ndef::normalize(buffer, message, flags != 0).transform(octets_of), wanted));
+        if (!flags) LOOK(is_written(ndef::normalize(buffer, message).transform(octets_of), wanted));
     }
 }
 
@@ -324,7 +324,7 @@ static void records(ndef::bytes whole) {
     LOOK(index == 0 || c.last || ndef_record_at(whole.data(), whole.size(), at, &c) != NDEF_OK);
     LOOK(message.record_count() == index);
     finds(message, whole);
-    rewrites(message, whole);
+    normalizes(message, whole);
 }
 
 static void checks(ndef::bytes whole, const ndef_limits &limits) {
@@ -386,7 +386,7 @@ static void sentences(ndef::bytes whole, const ndef_limits &limits) {
         if (call(given..., reinterpret_cast<std::uint8_t *>(text), sizeof text, &count) != NDEF_OK) return !told;
         return told == std::string(text, static_cast<std::size_t>(count));
     };
-    LOOK(same(ndef::why(whole, limits), ndef_why, whole.data(), whole.size(), &limits));
+    LOOK(same(ndef::why(whole, limits), ndef_refusal_message, whole.data(), whole.size(), &limits));
     LOOK(same(ndef::hint(whole, limits), ndef_hint, whole.data(), whole.size(), &limits));
 #if NDEF_VERSION_MAJOR > 0 || NDEF_VERSION_MINOR >= 4
     ndef_found found = {};
@@ -397,10 +397,10 @@ static void sentences(ndef::bytes whole, const ndef_limits &limits) {
 #endif
     for (ndef::field one : ndef::fields(whole, limits)) {
         const auto name = static_cast<std::uint32_t>(one.name);
-        LOOK(same(ndef::field_remark(one), ndef_field_remark, name, one.octets.data(), one.octets.size()));
+        LOOK(same(ndef::field_warning(one), ndef_field_warning, name, one.octets.data(), one.octets.size()));
     }
     for (ndef_size index = 0; index < 4; index++)
-        LOOK(same(ndef::record_remark(whole, index), ndef_record_remark, whole.data(), whole.size(), index));
+        LOOK(same(ndef::record_warning(whole, index), ndef_record_warning, whole.data(), whole.size(), index));
 }
 
 /// How the messages were answered that were looked at.
@@ -430,7 +430,7 @@ static void line(const octets &bytes) {
     for (int round = 0; round < 12; round++) {
         ndef::limits limits;
         limits.flags = round % 3 == 1 ? NDEF_STANDARD : round % 3 == 2 ? NDEF_OPAQUE : 0;
-        if (round % 4 == 3) limits.records = 2, limits.pieces = 2, limits.payload = 9;
+        if (round % 4 == 3) limits.records = 2, limits.NDEF_CHUNKS_MEMBER = 2, limits.payload = 9;
         message(changed, limits);
         if (bytes.empty() || bytes.size() > 4096) return;
         changed = bytes;
@@ -445,7 +445,7 @@ static void input(const octets &bytes) {
     if (bytes.size() < 2) return;
     ndef::limits limits;
     limits.flags = bytes[0] & 3u;
-    if (bytes[0] & 4) limits.records = 2, limits.pieces = 2, limits.payload = 16;
+    if (bytes[0] & 4) limits.records = 2, limits.NDEF_CHUNKS_MEMBER = 2, limits.payload = 16;
     message(ndef::bytes(bytes).from(2), limits);
 }
 
@@ -455,38 +455,38 @@ static void writers() {
     const ndef_part parts[] = {{0, 9}, {9, 3}};
     for (std::uint32_t number :
          {0u, 1u, 2u, 3u, 4u, 7u, 8u, 15u, 16u, 255u, 256u, 1000u, 65535u, 65536u, 0x12345678u, 0xffffffffu}) {
-        ndef::room room(first_room);
-        LOOK(is_written(ndef::write_action(room, static_cast<ndef::action>(number)),
+        ndef::buffer buffer(first_buffer);
+        LOOK(is_written(ndef::write_action(buffer, static_cast<ndef::action>(number)),
                         [=](auto... to) { return ndef_write_action(number, to...); }));
-        LOOK(is_written(ndef::write_size(room, number), [=](auto... to) { return ndef_write_size(number, to...); }));
-        LOOK(is_written(ndef::write_collision(room, number),
+        LOOK(is_written(ndef::write_size(buffer, number), [=](auto... to) { return ndef_write_size(number, to...); }));
+        LOOK(is_written(ndef::write_collision(buffer, number),
                         [=](auto... to) { return ndef_write_collision(number, to...); }));
-        LOOK(is_written(ndef::write_error(room, number, data),
+        LOOK(is_written(ndef::write_error(buffer, number, data),
                         [=](auto... to) { return ndef_write_error(number, data.data(), 4, to...); }));
-        LOOK(is_written(ndef::write_error_number(room, number, 7),
+        LOOK(is_written(ndef::write_error_number(buffer, number, 7),
                         [=](auto... to) { return ndef_write_error_number(number, 7, to...); }));
-        LOOK(is_written(ndef::write_error_number(room, 2, number),
+        LOOK(is_written(ndef::write_error_number(buffer, 2, number),
                         [=](auto... to) { return ndef_write_error_number(2, number, to...); }));
-        LOOK(is_written(ndef::write_carrier(room, number, "a/b", data), [=](auto... to) {
+        LOOK(is_written(ndef::write_carrier(buffer, number, "a/b", data), [=](auto... to) {
             return ndef_write_carrier(number, ndef::bytes(std::string_view("a/b")).data(), 3, data.data(), 4, to...);
         }));
-        LOOK(is_written(ndef::write_alternative(room, static_cast<ndef::power>(number), parts_of, parts, 2),
+        LOOK(is_written(ndef::write_alternative(buffer, static_cast<ndef::power>(number), parts_of, parts, 2),
                         [&](auto... to) {
                             return ndef_write_alternative(number, parts_of.data(), parts_of.size(), parts, 2, to...);
                         }));
         for (ndef::handover which : {ndef::handover::request, ndef::handover::select})
-            LOOK(is_written(ndef::write_handover(room, which, 1, number, ndef::bytes()), [=](auto... to) {
+            LOOK(is_written(ndef::write_handover(buffer, which, 1, number, ndef::bytes()), [=](auto... to) {
                 return ndef_write_handover(static_cast<std::uint32_t>(which), 1, number, nullptr, 0, to...);
             }));
-        LOOK(is_written(ndef::write_handover(room, ndef::handover::select, number, 2, ndef::bytes()),
+        LOOK(is_written(ndef::write_handover(buffer, ndef::handover::select, number, 2, ndef::bytes()),
                         [=](auto... to) { return ndef_write_handover(NDEF_SELECT, number, 2, nullptr, 0, to...); }));
     }
     const ndef_poster_writing poster = {{0, 9}, {9, 3}, 1, 1, 200, 1, 0x12345678};
     const ndef_title_writing titles[] = {{{9, 2}, {0, 4}, 0}, {{9, 3}, {0, 9}, 1}};
     const ndef_icon_writing icons[] = {{{0, 9}, {9, 3}}, {{9, 3}, {0, 0}}};
     for (std::size_t count : {0u, 1u, 2u}) {
-        ndef::room room(first_room);
-        LOOK(is_written(ndef::write_poster(room, parts_of, poster, titles, count, icons, 2 - count), [&](auto... to) {
+        ndef::buffer buffer(first_buffer);
+        LOOK(is_written(ndef::write_poster(buffer, parts_of, poster, titles, count, icons, 2 - count), [&](auto... to) {
             return ndef_write_poster(parts_of.data(), parts_of.size(), &poster, titles, count, icons, 2 - count, to...);
         }));
     }
@@ -497,8 +497,8 @@ static void built() {
     const std::string_view data = "payload of some bytes", id = "id";
     for (std::uint32_t chunk : {0u, 4u})
         for (bool is_long : {false, true}) {
-            ndef::room room(first_room);
-            ndef::builder builder(room);
+            ndef::buffer buffer(first_buffer);
+            ndef::builder builder(buffer);
             auto one = ndef::external("a:b", data, id);
             one.chunk = chunk, one.is_long = is_long;
             const auto made = builder.add(one);
@@ -510,12 +510,12 @@ static void built() {
             };
             LOOK(made && is_written(made->octets(), wanted));
             static std::uint8_t other[256];
-            ndef::room again(other);
+            ndef::buffer again(other);
             const auto written = ndef::write_message(again, {one});
             LOOK(written && is_written(written->octets(), wanted));
         }
-    ndef::room room(first_room);
-    ndef::builder builder(room);
+    ndef::buffer buffer(first_buffer);
+    ndef::builder builder(buffer);
     const auto uri = builder.add_uri("http://www.x", "u");
     LOOK(uri && uri->begin()->id() == "u" && uri->find_id("u")->as<ndef::uri>()->str() == "http://www.x");
     const auto both = builder.add_text("en", "Hi", ndef::encoding::utf16, "t");
@@ -523,12 +523,12 @@ static void built() {
     LOOK(both->find_id("t")->as<ndef::text>()->str() == "Hi" && builder.made().octets() == both->octets());
     LOOK(ndef::well_known("T", {}).format == NDEF_TNF_WELL_KNOWN && ndef::media("a/b", {}).format == NDEF_TNF_MEDIA);
     LOOK(ndef::external("a:b", {}).format == NDEF_TNF_EXTERNAL);
-    const auto media = ndef::write_message(room, {ndef::media("T", std::string_view("\2enHi"))});
+    const auto media = ndef::write_message(buffer, {ndef::media("T", std::string_view("\2enHi"))});
     LOOK(media && !media->begin()->as<ndef::text>() &&
          media->begin()->as<ndef::text>().error().what == NDEF_BAD_ARGUMENT);
 }
 
-/// Results, bytes, rooms and names.
+/// Results, bytes, buffers and names.
 static void basics() {
     using number = ndef::result<int>;
     const ndef::error why = {NDEF_REFUSED, NDEF_REASON_UTF8, 7, 0};
@@ -545,9 +545,9 @@ static void basics() {
     LOOK(ndef::bytes(std::string_view("ab")) != ndef::bytes(std::string_view("ac")) &&
          ndef::bytes() == ndef::bytes(std::string_view("")));
     LOOK(all.from(999).size() == 1 && all.from(1000).empty() && all.from(1001).empty() && all.part(998, 5).size() == 2);
-    ndef::room room(first_room, 5);
-    LOOK(room.take(3).size() == 3 && room.size() == 2 && room.data() == first_room + 3 && room.take(9).size() == 2 &&
-         room.size() == 0);
+    ndef::buffer buffer(first_buffer, 5);
+    LOOK(buffer.take(3).size() == 3 && buffer.size() == 2 && buffer.data() == first_buffer + 3 && buffer.take(9).size() == 2 &&
+         buffer.size() == 0);
     char text[80];
     ndef_size count = 0;
     const auto named = [&](std::uint32_t answer) {

@@ -1,4 +1,4 @@
-// What ndef.hpp has of its own: results, views of bytes, rooms, iterators, copies, defaults, large inputs, threads, and
+// What ndef.hpp has of its own: results, views of bytes, buffers, iterators, copies, defaults, large inputs, threads, and
 // memory that the caller changes afterwards. Expected bytes are those of the standards. Prints what differs.
 #include "ndef.h"
 
@@ -123,7 +123,7 @@ static void copies() {
     walk(copied, {}, key);
     walk(*request.links(array, 3, message), wanted, key);
     LOOK(request.links(array, 2, message).error().needed == 3 &&
-         request.links(array, 0, message).error().what == NDEF_NO_ROOM);
+         request.links(array, 0, message).error().what == NDEF_BUFFER_TOO_SMALL);
     LOOK(request.links(message).size() == 3 && request.carrier_count() == 3 && request.records().record_count() == 4);
     const ndef::links both = request.links(message);
     LOOK(std::next(both.begin())->record_index == 0 && both.begin()->record_index == 1);
@@ -181,12 +181,12 @@ struct counted {
 static void results() {
     using number = ndef::result<int>;
     number good = 3;
-    const number bad = ndef::error{NDEF_NO_ROOM, {}, 0, 7};
+    const number bad = ndef::error{NDEF_BUFFER_TOO_SMALL, {}, 0, 7};
     LOOK(good && good.has_value() && *good == 3 && good.value_or(9) == 3 && !bad && !bad.has_value() &&
          bad.value_or(9) == 9);
     *good = 5;
     LOOK(*good == 5 && good.transform([](int value) { return value + 0.5; }).value_or(0) == 5.5);
-    LOOK(bad.error().what == NDEF_NO_ROOM && bad.error().needed == 7 &&
+    LOOK(bad.error().what == NDEF_BUFFER_TOO_SMALL && bad.error().needed == 7 &&
          bad.transform([](int value) { return value; }).error().needed == 7);
     LOOK(bad.and_then([](int value) { return number(value); }).error().needed == 7);
     LOOK(!good.and_then([](int) { return number(ndef::error{}); }) &&
@@ -262,18 +262,18 @@ static void found_hints() {}
 /// The remarks are those of docs/EXPLAIN.md and test/explain/rows.txt.
 static void remarks() {
     const octets reserved = {3}, open = {2}, line = {'a', '\n'}, size = {0, 0, 0, 3};
-    const auto of_field = [](ndef::field_name name, ndef::bytes of) { return ndef::field_remark({of, 0, 0, name}).value_or(""); };
+    const auto of_field = [](ndef::field_name name, ndef::bytes of) { return ndef::field_warning({of, 0, 0, name}).value_or(""); };
     LOOK(of_field(NDEF_FIELD_ACTION, reserved) == "The action 3 is reserved." && of_field(NDEF_FIELD_ACTION, open).empty());
     LOOK(of_field(NDEF_FIELD_URI_REST, line) == "The URI has a control character." && of_field(NDEF_FIELD_TEXT, line).empty());
     LOOK(of_field(NDEF_FIELD_PAYLOAD_LENGTH, size) ==
          "The payload length 3 fits one octet (SR): the message could be 3 bytes shorter.");
-    LOOK(!ndef::field_remark({}) && !ndef::field_remark({reserved, 0, 0, NDEF_FIELD_TEXT}));
+    LOOK(!ndef::field_warning({}) && !ndef::field_warning({reserved, 0, 0, NDEF_FIELD_TEXT}));
     const octets twice = {0x9d, 0, 0, 1, 'a', 0x1d, 0, 0, 1, 'b', 0x5d, 0, 0, 1, 'a'};
     const std::string again = "Another record has the same id.";
-    LOOK(ndef::record_remark(twice, 0) == again && !ndef::record_remark(twice, 1) && ndef::record_remark(twice, 2) == again);
-    LOOK(!ndef::record_remark(twice, 3) && !ndef::record_remark(ndef::bytes(twice.data(), 14), 0) && !ndef::record_remark({}, 0));
+    LOOK(ndef::record_warning(twice, 0) == again && !ndef::record_warning(twice, 1) && ndef::record_warning(twice, 2) == again);
+    LOOK(!ndef::record_warning(twice, 3) && !ndef::record_warning(ndef::bytes(twice.data(), 14), 0) && !ndef::record_warning({}, 0));
     const octets request = {0xd1, 2, 8, 'H', 'r', 0x12, 0xd1, 2, 2, 'c', 'r', 0x12, 0x34};
-    LOOK(ndef::record_remark(request, 0) == "The request has no alternative carrier (`ac`).");
+    LOOK(ndef::record_warning(request, 0) == "The request has no alternative carrier (`ac`).");
 }
 
 static void views_of_bytes() {
@@ -293,13 +293,13 @@ static void views_of_bytes() {
     LOOK(ndef::bytes(text).text() == "abc" && ndef::bytes(text) == ndef::bytes(std::string("abc")) &&
          ndef::bytes(text) != ndef::bytes(std::string("abd")));
     LOOK(!(ndef::bytes(text) != ndef::bytes(text)) && !(ndef::bytes(text) == ndef::bytes(std::string("ab"))));
-    ndef::room room(numbers), none;
-    LOOK(room.data() == numbers.data() && room.size() == 3 && none.size() == 0 && none.data() == nullptr &&
+    ndef::buffer buffer(numbers), none;
+    LOOK(buffer.data() == numbers.data() && buffer.size() == 3 && none.size() == 0 && none.data() == nullptr &&
          none.take(4).empty());
-    LOOK(room.take(0).empty() && room.size() == 3 && room.take(1).data() == numbers.data() &&
-         room.data() == numbers.data() + 1 && room.size() == 2);
-    LOOK(room.take(2).size() == 2 && room.size() == 0 && room.take(1).empty());
-    ndef::room again(memory, 4), larger(memory, 12);
+    LOOK(buffer.take(0).empty() && buffer.size() == 3 && buffer.take(1).data() == numbers.data() &&
+         buffer.data() == numbers.data() + 1 && buffer.size() == 2);
+    LOOK(buffer.take(2).size() == 2 && buffer.size() == 0 && buffer.take(1).empty());
+    ndef::buffer again(memory, 4), larger(memory, 12);
     LOOK(ndef::write_text(again, "en", "Hi").error().needed == 5 && again.size() == 4 && again.data() == memory);
     LOOK(ndef::write_text(larger, "en", "Hi")->data() == memory && larger.data() == memory + 5 &&
          ndef::write_uri(larger, "tel:1")->data() == memory + 5);
@@ -307,22 +307,22 @@ static void views_of_bytes() {
 
 /// What is left out: no titles and no icons of a poster, no id, no chunks, the strict profile and UTF-8.
 static void defaults() {
-    ndef::room room(memory);
+    ndef::buffer buffer(memory);
     const ndef_poster_writing how = {{0, 1}, {}, 0, 0, 0, 0, 0};
-    const auto poster = ndef::write_poster(room, std::string_view("a"), how);
+    const auto poster = ndef::write_poster(buffer, std::string_view("a"), how);
     LOOK(poster && hex(*poster) == "D10102550061");
-    LOOK(hex(*ndef::write_text(room, "en", "A")) == "02656E41" &&
-         hex(*ndef::write_text(room, "en", "A", ndef::encoding::utf16)) == "82656EFEFF0041");
+    LOOK(hex(*ndef::write_text(buffer, "en", "A")) == "02656E41" &&
+         hex(*ndef::write_text(buffer, "en", "A", ndef::encoding::utf16)) == "82656EFEFF0041");
     const auto type = std::string_view("x");
-    LOOK(hex(ndef::write_message(room, {ndef::well_known(type, type)})->octets()) == "D101017878");
-    LOOK(hex(ndef::write_message(room, {ndef::media(type, type)})->octets()) == "D201017878");
-    LOOK(hex(ndef::write_message(room, {ndef::external(type, type, "i")})->octets()) == "DC010101786978");
-    LOOK(hex(ndef::write_message(room, {ndef::new_record()})->octets()) == "D00000");
+    LOOK(hex(ndef::write_message(buffer, {ndef::well_known(type, type)})->octets()) == "D101017878");
+    LOOK(hex(ndef::write_message(buffer, {ndef::media(type, type)})->octets()) == "D201017878");
+    LOOK(hex(ndef::write_message(buffer, {ndef::external(type, type, "i")})->octets()) == "DC010101786978");
+    LOOK(hex(ndef::write_message(buffer, {ndef::new_record()})->octets()) == "D00000");
     const octets reserved = {0xd1, 1, 2, 'U', 0x24, 'a'};
     LOOK(ndef::message::check(reserved).error().why == NDEF_REASON_URI_CODE &&
          !ndef::uri::read(ndef::bytes(reserved).from(4)));
     ndef::limits limits;
-    LOOK(limits.payload == 1048576 && limits.records == 1024 && limits.pieces == 4096 && limits.flags == 0);
+    LOOK(limits.payload == 1048576 && limits.records == 1024 && limits.NDEF_CHUNKS_MEMBER == 4096 && limits.flags == 0);
     limits.flags = NDEF_STANDARD;
     const auto message = *ndef::message::check(reserved, limits);
     LOOK(!message.begin()->as<ndef::uri>() && message.begin()->as<ndef::uri>(ndef::profile::standard)->str() == "a");
@@ -334,7 +334,7 @@ static void defaults() {
     LOOK(field.octets.empty() && field.at == 0 && field.depth == 0 && field.name == 0 && ndef::uri().code() == 0 &&
          ndef::text().str().empty());
     std::uint8_t few[6];
-    ndef::builder builder{ndef::room(few)};
+    ndef::builder builder{ndef::buffer(few)};
     LOOK(builder.made().octets().empty() && builder.add_uri("tel:1")->octets().size() == 6 &&
          builder.add_text("", "").error().needed == 11);
     LOOK(hex(builder.made().octets()) == "D101025505"
@@ -342,17 +342,17 @@ static void defaults() {
          builder.add(ndef::new_record()).error().needed == 9);
 }
 
-/// Views show what the caller's memory holds now; strings, and what a room holds, stay.
+/// Views show what the caller's memory holds now; strings, and what a buffer holds, stay.
 static void aliasing() {
     octets bytes = {0xd1, 1, 8, 'T', 2, 'e', 'n', 'H', 'e', 'l', 'l', 'o'};
     const auto text = *ndef::message::check(bytes)->begin()->as<ndef::text>();
     const std::string kept = text.str();
-    ndef::room room(memory);
-    const auto written = ndef::write_text(room, "en", text.utf8(room).value_or(""));
+    ndef::buffer buffer(memory);
+    const auto written = ndef::write_text(buffer, "en", text.utf8(buffer).value_or(""));
     bytes[7] = 'J';
     LOOK(text.str() == "Jello" && kept == "Hello" && written->text() == std::string_view("\2enHello"));
     std::string type = "a/b", payload = "x";
-    ndef::builder builder{ndef::room(memory)};
+    ndef::builder builder{ndef::buffer(memory)};
     const auto made = builder.add(ndef::media(type, payload));
     type[0] = payload[0] = '?';
     LOOK(hex(made->octets()) == "D20301612F6278");
@@ -362,14 +362,14 @@ static void aliasing() {
 static void large() {
     const std::string payload(1048576 - 3, 'a');
     static std::uint8_t room_of_2_mb[1 << 21];
-    ndef::room room(room_of_2_mb);
-    const auto text = ndef::write_text(room, "en", payload);
+    ndef::buffer buffer(room_of_2_mb);
+    const auto text = ndef::write_text(buffer, "en", payload);
     const auto message =
-        ndef::write_message(room, {{NDEF_TNF_WELL_KNOWN, "T", *text, "", 65536, false}, ndef::new_record()})
+        ndef::write_message(buffer, {{NDEF_TNF_WELL_KNOWN, "T", *text, "", 65536, false}, ndef::new_record()})
             .value_or(ndef::message());
     LOOK(message.octets().size() == 0);
     static std::uint8_t room_of_3_mb[3 << 20];
-    ndef::room larger(room_of_3_mb);
+    ndef::buffer larger(room_of_3_mb);
     const auto whole =
         *ndef::write_message(larger, {{NDEF_TNF_WELL_KNOWN, "T", *text, "", 65536, false}, ndef::new_record()});
     LOOK(whole.begin()->chunks() == 16 && whole.begin()->payload_size() == 1048576 && whole.record_count() == 2);
@@ -387,7 +387,7 @@ static void large() {
          ndef::message::check(wrong).error().why == NDEF_REASON_EMPTY_NOT_EMPTY);
     LOOK(ndef::message::check(whole.octets().part(0, 1048000)).error().place == 1048000);
     const std::vector<ndef::new_record> records(1024, ndef::media("a/b", std::string_view("x")));
-    ndef::room other(memory);
+    ndef::buffer other(memory);
     const auto many = ndef::write_message(other, records);
     LOOK(many && many->record_count() == 1024 && ndef::message::check(many->octets()) &&
          ndef::fields(many->octets()).size() == 5 * 1024);
@@ -402,7 +402,7 @@ static void threads() {
             std::vector<std::uint8_t> own(64);
             bool holds = true;
             for (int round = 0; round < 2000; round++) {
-                ndef::builder builder{ndef::room(own)};
+                ndef::builder builder{ndef::buffer(own)};
                 const std::string text(index + 1, static_cast<char>('a' + index));
                 const auto made = builder.add_text("en", text);
                 holds = holds && made && ndef::message::check(made->octets())->begin()->as<ndef::text>()->str() == text;

@@ -48,8 +48,8 @@ template <class Writer> ndef::result<octets> in_steps(Writer &writer, dice &dice
     octets all;
     for (;;) {
         octets memory(1 + dice.below(most), 0xa5);
-        ndef::room room(memory);
-        const auto made = writer.next(room);
+        ndef::buffer buffer(memory);
+        const auto made = writer.next(buffer);
         if (!made) return made.error();
         all.insert(all.end(), made->begin(), made->end());
         for (std::size_t at = made->size(); at < memory.size(); at++)
@@ -57,8 +57,8 @@ template <class Writer> ndef::result<octets> in_steps(Writer &writer, dice &dice
         if (made->size() < memory.size()) break;
     }
     std::uint8_t more[9];
-    ndef::room room(more), none;
-    const auto again = writer.next(room), nothing = writer.next(none);
+    ndef::buffer buffer(more), none;
+    const auto again = writer.next(buffer), nothing = writer.next(none);
     if (!again || !again->empty() || !nothing || !nothing->empty()) return ndef::error{};
     return all;
 }
@@ -73,8 +73,8 @@ static ndef::result<octets> in_parts(const ndef::new_record &one, ndef::position
         const std::size_t size = dice.below(left.size() + 1);
         ndef::bytes part = left.part(0, size);
         octets memory(1 + dice.below(40));
-        ndef::room room(memory);
-        const auto made = writer->next(part, room);
+        ndef::buffer buffer(memory);
+        const auto made = writer->next(part, buffer);
         if (!made) return made.error();
         all.insert(all.end(), made->begin(), made->end());
         left = left.from(size - part.size());
@@ -88,8 +88,8 @@ static void random_messages(int count) {
     int wrong = 0;
     for (int number = 0; number < count; number++) {
         const drawn of(dice);
-        ndef::room room(space);
-        const auto whole = ndef::write_message(room, of.records, ndef::unchecked);
+        ndef::buffer buffer(space);
+        const auto whole = ndef::write_message(buffer, of.records, ndef::unchecked);
         ndef::message_writer<std::vector<ndef::new_record>> writer(of.records, ndef::unchecked);
         const auto steps = in_steps(writer, dice, dice.one_of<std::size_t>({1, 2, 5, 40, 1000}));
         octets joined_parts;
@@ -101,7 +101,7 @@ static void random_messages(int count) {
         }
         const bool is_same = whole && steps && ndef::bytes(*steps) == whole->octets() && ndef::bytes(joined_parts) == whole->octets();
         // Checked, it ends with the error of write_message, or with none.
-        ndef::room other(space);
+        ndef::buffer other(space);
         const auto checked = ndef::write_message(other, of.records);
         ndef::message_writer<std::vector<ndef::new_record>> careful(of.records);
         const auto told = in_steps(careful, dice, 20);
@@ -118,12 +118,12 @@ template <class Records> ndef::error first_error(const Records &records, const n
     ndef::message_writer<Records> writer(records, how);
     for (;;) {
         std::uint8_t memory[4];
-        ndef::room room(memory), again(memory);
-        const auto made = writer.next(room);
+        ndef::buffer buffer(memory), again(memory);
+        const auto made = writer.next(buffer);
         if (made && made->empty()) return {NDEF_OK};
         if (made) continue;
         const auto same = writer.next(again);
-        const bool is_same = !same && same.error().what == made.error().what && same.error().place == made.error().place && room.size() == 4;
+        const bool is_same = !same && same.error().what == made.error().what && same.error().place == made.error().place && buffer.size() == 4;
         return is_same ? made.error() : ndef::error{NDEF_MORE};
     }
 }
@@ -152,15 +152,15 @@ static void payloads_of_another_length() {
     const ndef::new_record head{NDEF_TNF_UNKNOWN};
     auto writer = *ndef::record_writer::begin(head, 3);
     std::uint8_t memory[9];
-    ndef::room room(memory);
+    ndef::buffer buffer(memory);
     ndef::bytes none, two("ab"sv), rest("cd"sv), last("c"sv);
-    test("the head", *writer.next(none, room) == ndef::bytes("\xD5\0\3"sv) && writer.left() == 3 && !writer.is_whole());
-    test("two bytes", *writer.next(two, room) == ndef::bytes("ab"sv) && two.empty() && writer.left() == 1);
-    const auto many = writer.next(rest, room);
-    test("more bytes than are left", !many && many.error().what == NDEF_BAD_ARGUMENT && rest.size() == 2 && writer.left() == 1 && room.size() == 4);
-    test("none are given", writer.next(none, room)->empty() && !writer.is_whole());
-    test("the last one", *writer.next(last, room) == ndef::bytes("c"sv) && writer.is_whole());
-    test("no more follow", writer.next(none, room)->empty() && writer.next(rest, room).error().what == NDEF_BAD_ARGUMENT);
+    test("the head", *writer.next(none, buffer) == ndef::bytes("\xD5\0\3"sv) && writer.left() == 3 && !writer.is_whole());
+    test("two bytes", *writer.next(two, buffer) == ndef::bytes("ab"sv) && two.empty() && writer.left() == 1);
+    const auto many = writer.next(rest, buffer);
+    test("more bytes than are left", !many && many.error().what == NDEF_BAD_ARGUMENT && rest.size() == 2 && writer.left() == 1 && buffer.size() == 4);
+    test("none are given", writer.next(none, buffer)->empty() && !writer.is_whole());
+    test("the last one", *writer.next(last, buffer) == ndef::bytes("c"sv) && writer.is_whole());
+    test("no more follow", writer.next(none, buffer)->empty() && writer.next(rest, buffer).error().what == NDEF_BAD_ARGUMENT);
 }
 
 static void arguments_of_records() {

@@ -22,16 +22,16 @@ static std::string listed(const std::vector<std::string> &items) {
 }
 
 static std::string value_of(const ndef::text &text) {
-    ndef::room room(memory);
-    const auto utf8 = text.utf8(room);
+    ndef::buffer buffer(memory);
+    const auto utf8 = text.utf8(buffer);
     if (!utf8 || *utf8 != text.str()) return "two texts";
     return std::string(text.is_utf16() ? "encoding=utf-16" : "encoding=utf-8") + " language=" + hex(text.language()) +
         " text=" + hex(*utf8);
 }
 
 static std::string value_of(const ndef::uri &uri) {
-    ndef::room room(memory);
-    const auto utf8 = uri.utf8(room);
+    ndef::buffer buffer(memory);
+    const auto utf8 = uri.utf8(buffer);
     const bool is_rest = utf8 && utf8->substr(utf8->size() - uri.rest().size()) == uri.rest();
     return is_rest && *utf8 == uri.str() && uri.code() == uri.payload()[0] ? "uri=" + hex(uri.str()) : "two URIs";
 }
@@ -80,54 +80,54 @@ static std::string value_of(const ndef::select &select) {
 }
 
 /// What is written of a value.
-static ndef::result<ndef::bytes> written(ndef::room &room, const ndef::text &text) {
+static ndef::result<ndef::bytes> written(ndef::buffer &buffer, const ndef::text &text) {
     const auto encoding = text.is_utf16() ? ndef::encoding::utf16 : ndef::encoding::utf8;
-    return ndef::write_text(room, text.language(), text.str(), encoding);
+    return ndef::write_text(buffer, text.language(), text.str(), encoding);
 }
-static ndef::result<ndef::bytes> written(ndef::room &room, const ndef::uri &uri) {
-    return ndef::write_uri(room, uri.str());
+static ndef::result<ndef::bytes> written(ndef::buffer &buffer, const ndef::uri &uri) {
+    return ndef::write_uri(buffer, uri.str());
 }
-static ndef::result<ndef::bytes> written(ndef::room &room, const ndef::carrier &carrier) {
-    return ndef::write_carrier(room, carrier.format(), carrier.type(), carrier.data());
+static ndef::result<ndef::bytes> written(ndef::buffer &buffer, const ndef::carrier &carrier) {
+    return ndef::write_carrier(buffer, carrier.format(), carrier.type(), carrier.data());
 }
-static ndef::result<ndef::bytes> written(ndef::room &room, const ndef::handover_error &error) {
-    if (!error.number()) return ndef::write_error(room, error.error_reason(), error.data());
-    return ndef::write_error_number(room, error.error_reason(), *error.number());
+static ndef::result<ndef::bytes> written(ndef::buffer &buffer, const ndef::handover_error &error) {
+    if (!error.number()) return ndef::write_error(buffer, error.error_reason(), error.data());
+    return ndef::write_error_number(buffer, error.error_reason(), *error.number());
 }
 
 /// Written with the data reference alone, where there is no other.
-static ndef::result<ndef::bytes> written(ndef::room &room, const ndef::alternative &alternative) {
+static ndef::result<ndef::bytes> written(ndef::buffer &buffer, const ndef::alternative &alternative) {
     const std::string_view first = *alternative.reference(0);
-    if (alternative.reference_count() == 1) return ndef::write_alternative(room, alternative.power(), first);
+    if (alternative.reference_count() == 1) return ndef::write_alternative(buffer, alternative.power(), first);
     std::vector<ndef_part> parts;
     for (std::uint32_t index = 0; index < alternative.reference_count(); index++) {
         const auto reference = ndef::bytes(*alternative.reference(index));
         parts.push_back({static_cast<ndef_size>(reference.data() - alternative.payload().data()), reference.size()});
     }
-    return ndef::write_alternative(room, alternative.power(), alternative.payload(), parts.data(), parts.size());
+    return ndef::write_alternative(buffer, alternative.power(), alternative.payload(), parts.data(), parts.size());
 }
 
-static ndef::result<ndef::bytes> written(ndef::room &room, ndef::message records) {
+static ndef::result<ndef::bytes> written(ndef::buffer &buffer, ndef::message records) {
     std::vector<ndef::new_record> all;
     for (ndef::record one : records) {
         const auto uri = one.as<ndef::uri>(profile);
-        const auto payload = uri ? written(room, *uri) : one.payload();
+        const auto payload = uri ? written(buffer, *uri) : one.payload();
         all.push_back({one.format(), one.type(), *payload, one.id()});
     }
     if (all.empty()) return ndef::bytes();
-    return ndef::write_message(room, all, ndef::unchecked).transform([](const ndef::message &made) { return made.octets(); });
+    return ndef::write_message(buffer, all, ndef::unchecked).transform([](const ndef::message &made) { return made.octets(); });
 }
-static ndef::result<ndef::bytes> written(ndef::room &room, const ndef::poster &poster) {
-    return written(room, poster.records());
+static ndef::result<ndef::bytes> written(ndef::buffer &buffer, const ndef::poster &poster) {
+    return written(buffer, poster.records());
 }
-static ndef::result<ndef::bytes> written(ndef::room &room, const ndef::request &request) {
-    const auto records = written(room, request.records());
-    return ndef::write_handover(room, ndef::handover::request, request.major_version(), request.minor_version(),
+static ndef::result<ndef::bytes> written(ndef::buffer &buffer, const ndef::request &request) {
+    const auto records = written(buffer, request.records());
+    return ndef::write_handover(buffer, ndef::handover::request, request.major_version(), request.minor_version(),
                                 *records);
 }
-static ndef::result<ndef::bytes> written(ndef::room &room, const ndef::select &select) {
-    const auto records = written(room, select.records());
-    return ndef::write_handover(room, ndef::handover::select, select.major_version(), select.minor_version(), *records);
+static ndef::result<ndef::bytes> written(ndef::buffer &buffer, const ndef::select &select) {
+    const auto records = written(buffer, select.records());
+    return ndef::write_handover(buffer, ndef::handover::select, select.major_version(), select.minor_version(), *records);
 }
 
 /// Alternative carriers end with bytes that have no meaning, which no call writes.
@@ -145,8 +145,8 @@ template <class View> bool is_told(const std::vector<std::string> &fields) {
         return view.error().what == NDEF_REFUSED && fields[VALUE] == answer;
     }
     if (value_of(*view) != fields[VALUE]) return std::cout << value_of(*view) << '\n', false;
-    ndef::room room(memory);
-    const auto made = written(room, *view);
+    ndef::buffer buffer(memory);
+    const auto made = written(buffer, *view);
     return has_rest(fields[TYPE], fields[VALUE]) || (made && hex(*made) == hex(from_hex(fields[WRITTEN])));
 }
 
@@ -176,19 +176,19 @@ static bool are_two_links(const ndef::links &links) {
 
 /// A request with two carriers and the records to which they refer, written and read.
 static bool are_linked() {
-    ndef::room room(memory);
-    const auto collision = ndef::write_collision(room, 4660);
-    const auto first = ndef::write_alternative(room, ndef::power::active, "b");
-    const auto second = ndef::write_alternative(room, ndef::power::inactive, "none");
-    const auto nested = ndef::write_message(room, {ndef::well_known("cr", *collision), ndef::well_known("ac", *first),
+    ndef::buffer buffer(memory);
+    const auto collision = ndef::write_collision(buffer, 4660);
+    const auto first = ndef::write_alternative(buffer, ndef::power::active, "b");
+    const auto second = ndef::write_alternative(buffer, ndef::power::inactive, "none");
+    const auto nested = ndef::write_message(buffer, {ndef::well_known("cr", *collision), ndef::well_known("ac", *first),
                                                    ndef::well_known("ac", *second)});
-    const auto payload = ndef::write_handover(room, ndef::handover::request, 1, 2, nested->octets());
+    const auto payload = ndef::write_handover(buffer, ndef::handover::request, 1, 2, nested->octets());
     const ndef_part parts[] = {{0, 1}, {1, 4}};
     const ndef_alternative_writing both[] = {{0, 1, 1}, {1, 1, 0}};
-    const auto same = ndef::write_request(room, 2, 4660, std::string_view("bnone"), parts, 2, both, 2);
+    const auto same = ndef::write_request(buffer, 2, 4660, std::string_view("bnone"), parts, 2, both, 2);
     if (!payload || !same || hex(*same) != hex(*payload)) return false;
     const std::string_view data = "carrier data";
-    const auto message = ndef::write_message(room, {ndef::well_known("Hr", *payload), ndef::media("a/b", data, "a"),
+    const auto message = ndef::write_message(buffer, {ndef::well_known("Hr", *payload), ndef::media("a/b", data, "a"),
                                                     ndef::media("a/b", data.substr(0, 7), "b")});
     if (!message || message->record_count() != 3) return false;
     const unsigned long before = allocations;
@@ -196,7 +196,7 @@ static bool are_linked() {
     if (!request || request->carrier_count() != 2 || request->collision() != 4660) return false;
     ndef_link array[2];
     const auto few = request->links(array, 1, *message);
-    if (few || few.error().what != NDEF_NO_ROOM || few.error().needed != 2) return false;
+    if (few || few.error().what != NDEF_BUFFER_TOO_SMALL || few.error().needed != 2) return false;
     const auto links = request->links(array, 2, *message);
     if (!links || !are_two_links(*links) || allocations != before) return false;
     const ndef::links made = request->links(*message), copied = made;
@@ -208,14 +208,14 @@ static bool are_linked() {
 
 /// A poster and a select, each written in one call.
 static bool are_made() {
-    ndef::room room(memory);
+    ndef::buffer buffer(memory);
     const ndef_poster_writing how = {{0, 14}, {14, 3}, 1, 1, 2, 0, 0};
     const ndef_title_writing title = {{17, 2}, {19, 2}, 0};
-    const auto made = ndef::write_poster(room, std::string_view("http://www.x.ya/benHi"), how, &title, 1);
+    const auto made = ndef::write_poster(buffer, std::string_view("http://www.x.ya/benHi"), how, &title, 1);
     const ndef_part id = {0, 1};
     const ndef_alternative_writing carrier = {0, 1, 3};
     const ndef_select_writing said = {{1, 1}, 5, 1, 1};
-    const auto select = ndef::write_select(room, said, std::string_view("i\7"), &id, 1, &carrier, 1);
+    const auto select = ndef::write_select(buffer, said, std::string_view("i\7"), &id, 1, &carrier, 1);
     return made && select && hex(*made) == "91010455" "01782E79" "11010554" "02656E4869" "110301" "616374" "02"
                                            "51010374" "612F62" &&
         hex(*select) == "15" "910204" "6163" "03016900" "510302" "657272" "0107";
@@ -223,14 +223,14 @@ static bool are_made() {
 
 /// A record in chunks, and in the long form; and records that end where one is the last, whatever follows.
 static bool are_chunked() {
-    ndef::room room(memory);
+    ndef::buffer buffer(memory);
     const std::string_view data = "payload";
-    const auto message = ndef::write_message(room, {{NDEF_TNF_EXTERNAL, "a:b", data, "id", 3, false},
+    const auto message = ndef::write_message(buffer, {{NDEF_TNF_EXTERNAL, "a:b", data, "id", 3, false},
                                                     {NDEF_TNF_UNKNOWN, "", data, "", 0, true}});
     if (!message || hex(message->octets()) != "BC030302" "613A626964" "706179" "360003" "6C6F61" "160001" "64"
                                               "4500" "00000007" "7061796C6F6164") return false;
     const auto first = message->begin();
-    const auto joined = first->payload(room);
+    const auto joined = first->payload(buffer);
     if (first->chunks() != 3 || first->payload() || !joined || joined->text() != data) return false;
     const std::uint8_t two[] = {0xd0, 0, 0, 0xd0, 0, 0};
     return ndef::message::unchecked(two).record_count() == 1 && ndef::message::check(two)->octets().size() == 3;
@@ -239,13 +239,13 @@ static bool are_chunked() {
 /// A message that is built is whole behind each record, and stays as it was where a record doesn't fit.
 static bool is_built() {
     std::uint8_t few[25];
-    ndef::builder builder{ndef::room(few)};
+    ndef::builder builder{ndef::buffer(few)};
     const std::string_view data = "payload";
     if (builder.made().record_count() != 0 || builder.add({NDEF_TNF_MEDIA, "", data})) return false;
     const auto first = builder.add({NDEF_TNF_MEDIA, "a/b", data});
     if (!first || hex(first->octets()) != "D20307" "612F62" "7061796C6F6164") return false;
     const auto failed = builder.add({NDEF_TNF_MEDIA, "a/b", data});
-    if (failed || failed.error().what != NDEF_NO_ROOM || failed.error().needed != 26) return false;
+    if (failed || failed.error().what != NDEF_BUFFER_TOO_SMALL || failed.error().needed != 26) return false;
     if (builder.made().octets() != first->octets()) return false;
     const auto second = builder.add({NDEF_TNF_UNKNOWN, "", data, "i", 0, false});
     return second && hex(second->octets()) == "920307" "612F62" "7061796C6F6164" "5D000701" "69" "7061796C6F6164" &&
@@ -255,11 +255,11 @@ static bool is_built() {
 /// Texts and URIs are appended in place, and a poster tells its media type.
 static bool are_appended() {
     std::uint8_t few[20];
-    ndef::builder builder{ndef::room(few)};
+    ndef::builder builder{ndef::buffer(few)};
     const auto first = builder.add_text("de", "Hi", ndef::encoding::utf8, "i");
     if (!first || hex(first->octets()) != "D9010501" "54" "69" "0264654869") return false;
     const auto failed = builder.add_text("f", "A", ndef::encoding::utf16);
-    if (failed || failed.error().what != NDEF_NO_ROOM || failed.error().needed != 21) return false;
+    if (failed || failed.error().what != NDEF_BUFFER_TOO_SMALL || failed.error().needed != 21) return false;
     const auto second = builder.add_uri("http://www.x");
     return second && hex(second->octets()) == "99010501" "54" "69" "0264654869" "510102" "55" "0178";
 }
@@ -267,9 +267,9 @@ static bool are_appended() {
 /// A message is written again, its chunks joined.
 static bool is_rewritten() {
     const std::uint8_t chunked[] = {0xb1, 1, 1, 'T', 0, 0x56, 0, 1, 'x'};
-    ndef::room room(memory);
-    const auto joined = ndef::rewrite(room, ndef::message::unchecked(chunked));
-    const auto wide = ndef::rewrite(room, ndef::message::unchecked(chunked), true);
+    ndef::buffer buffer(memory);
+    const auto joined = ndef::normalize(buffer, ndef::message::unchecked(chunked));
+    const auto wide = ndef::normalize(buffer, ndef::message::unchecked(chunked), true);
     return joined && hex(joined->octets()) == "D10102" "54" "0078" && wide && hex(wide->octets()) == "C10100000002" "54" "0078";
 }
 
@@ -281,9 +281,9 @@ static bool has_media_type() {
 
 /// The icons of a poster, as ndef_poster_icons tells them, and its titles by language.
 static bool has_icons_and_titles() {
-    ndef::room room(memory);
+    ndef::buffer buffer(memory);
     const std::string_view image = "image", german = "\2deJa", english = "\2enYes", uri = std::string_view("\0u", 2);
-    const auto made = ndef::write_message(room, {ndef::well_known("U", uri), ndef::well_known("T", german),
+    const auto made = ndef::write_message(buffer, {ndef::well_known("U", uri), ndef::well_known("T", german),
                                                  ndef::media("image/png", image), ndef::well_known("T", english),
                                                  ndef::external("a:b", image), ndef::media("video/x", ndef::bytes())});
     const unsigned long before = allocations;
@@ -315,12 +315,12 @@ static bool has_error() {
 
 /// What can't be written says why.
 static bool are_refused() {
-    ndef::room room(memory);
-    const auto none = ndef::write_message(room, {});
-    const auto wrong = ndef::write_message(room, {ndef::well_known("", ndef::bytes())});
-    const auto language = ndef::write_text(room, std::string(64, 'x'), "");
+    ndef::buffer buffer(memory);
+    const auto none = ndef::write_message(buffer, {});
+    const auto wrong = ndef::write_message(buffer, {ndef::well_known("", ndef::bytes())});
+    const auto language = ndef::write_text(buffer, std::string(64, 'x'), "");
     const auto limits = ndef::message::check(ndef::bytes(), ndef_limits{0, 1, 1, 0});
-    return room.size() == sizeof memory && !none && none.error().what == NDEF_BAD_ARGUMENT && !wrong &&
+    return buffer.size() == sizeof memory && !none && none.error().what == NDEF_BAD_ARGUMENT && !wrong &&
         wrong.error().what == NDEF_BAD_ARGUMENT && !language && language.error().what == NDEF_BAD_ARGUMENT && !limits &&
         limits.error().what == NDEF_BAD_ARGUMENT && limits.error().why == 0;
 }

@@ -39,12 +39,12 @@ static bool is_refused(const ndef::error &why, const refused_record &row) {
 static void refused_are_not_written() {
     const auto first = ndef::media("a/b", {}, "i");
     for (const auto &row : refused_records) {
-        ndef::room room(space);
-        const auto written = ndef::write_message(room, {first, row.one});
-        test(row.name, !written && is_refused(written.error(), row) && room.size() == sizeof space);
+        ndef::buffer buffer(space);
+        const auto written = ndef::write_message(buffer, {first, row.one});
+        test(row.name, !written && is_refused(written.error(), row) && buffer.size() == sizeof space);
         const auto owned = ndef::owned_message::write({first, row.one});
         test(row.name, !owned && is_refused(owned.error(), row));
-        const auto unchecked = ndef::write_message(room, {first, row.one}, ndef::unchecked);
+        const auto unchecked = ndef::write_message(buffer, {first, row.one}, ndef::unchecked);
         test(row.name, bool(unchecked) && unchecked->record_count() == 2 &&
                            ndef::message::check(unchecked->octets()).error().place == row.place + 8);
         test(row.name, bool(ndef::owned_message::write({first, row.one}, ndef::unchecked)));
@@ -53,25 +53,25 @@ static void refused_are_not_written() {
 
 static void limits_are_kept() {
     const std::vector<ndef::new_record> records(1025, {NDEF_TNF_UNKNOWN, "", {}});
-    ndef::room room(space);
-    const auto written = ndef::write_message(room, records);
+    ndef::buffer buffer(space);
+    const auto written = ndef::write_message(buffer, records);
     test("1025 records", !written && written.error().why == NDEF_REASON_TOO_MANY_RECORDS && written.error().record == 1023);
     ndef::limits limits;
     limits.records = 1025;
-    test("with a limit of 1025", bool(ndef::write_message(room, records, limits)));
+    test("with a limit of 1025", bool(ndef::write_message(buffer, records, limits)));
     limits.records = 0;
-    const auto none = ndef::write_message(room, records, limits);
+    const auto none = ndef::write_message(buffer, records, limits);
     test("with a limit of 0", !none && none.error().what == NDEF_BAD_ARGUMENT && none.error().which == ndef::argument::limits);
     limits = ndef::limits();
     limits.flags = NDEF_STANDARD;
-    test("a reserved code by the standard", bool(ndef::write_message(room, {refused_records[1].one}, limits)));
+    test("a reserved code by the standard", bool(ndef::write_message(buffer, {refused_records[1].one}, limits)));
 }
 
 /// The argument that is named for a record that has no spelling.
 static ndef::error why_bad(const ndef::new_record &one) {
-    ndef::room room(space);
-    const auto written = ndef::write_message(room, {ndef::new_record(), one});
-    ndef::builder builder{ndef::room(space)};
+    ndef::buffer buffer(space);
+    const auto written = ndef::write_message(buffer, {ndef::new_record(), one});
+    ndef::builder builder{ndef::buffer(space)};
     const auto added = builder.add(one);
     if (written || added || added.error().which != written.error().which || added.error().record != 0) return {};
     return written.error();
@@ -91,16 +91,16 @@ static void arguments_are_named() {
         test(row.name, why.what == NDEF_BAD_ARGUMENT && why.record == 1 && why.which == row.which);
     }
     test("it is printed", ndef::to_string(why_bad(rows[3].one)) == "record 1: BadArgument: id");
-    ndef::room room(space);
-    const auto none = ndef::write_message(room, std::vector<ndef::new_record>());
+    ndef::buffer buffer(space);
+    const auto none = ndef::write_message(buffer, std::vector<ndef::new_record>());
     test("no records", none.error().which == ndef::argument::records && ndef::to_string(none.error()) == "BadArgument: records");
-    const auto refused = ndef::write_message(room, {refused_records[1].one});
+    const auto refused = ndef::write_message(buffer, {refused_records[1].one});
     test("a refusal is printed", ndef::to_string(refused.error()) == "record 0: refused at 4: 19 UriCode");
 }
 
 /// A builder takes what message::check takes, and is as it was after a record that is refused.
 static void builders_are_checked() {
-    ndef::builder builder{ndef::room(space)}, loose{ndef::room(space), ndef::unchecked};
+    ndef::builder builder{ndef::buffer(space)}, loose{ndef::buffer(space), ndef::unchecked};
     test("a text", bool(builder.add_text("en", "a")) && bool(builder.add_uri("tel:1")));
     const std::string before(builder.made().octets().text());
     for (const auto &row : refused_records) {
@@ -113,12 +113,12 @@ static void builders_are_checked() {
     test("unchecked", bool(loose.add(refused_records[0].one)) && bool(loose.add(refused_records[1].one)));
     ndef::limits few;
     few.records = 2;
-    ndef::builder two{ndef::room(space), few};
+    ndef::builder two{ndef::buffer(space), few};
     test("two of two", two.add_text("en", "a") && two.add_text("en", "b"));
     const auto third = two.add_text("en", "c");
     test("three of two", !third && third.error().why == NDEF_REASON_TOO_MANY_RECORDS && two.made().record_count() == 2);
     few.records = 0;
-    ndef::builder none{ndef::room(space), few};
+    ndef::builder none{ndef::buffer(space), few};
     test("limits out of range", none.add_text("en", "a").error().which == ndef::argument::limits && none.made().octets().empty());
 }
 

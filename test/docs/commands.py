@@ -4,17 +4,17 @@ import re
 # The test of each page whose lines `$ COMMAND` are run, and what its blocks of `sh` are.
 PAGES = {
     'README.md': 'test/docs/run', 'docs/COMMAND.md': 'test/docs/run', 'docs/EXPLAIN.md': 'test/docs/run', 'docs/C.md': 'test/c/run',
-    'docs/CPP.md': 'test/cpp/part', 'python/README.md': 'test/python/test_readme.py', 'go/README.md': 'test/go/run',
-    'java/README.md': 'test/java/readme', 'web/README.md': 'test/web/run',
+    'docs/CPP.md': 'test/cpp/part', 'bindings/python/README.md': 'test/python/test_readme.py', 'bindings/go/README.md': 'test/go/run',
+    'bindings/java/README.md': 'test/java/readme', 'bindings/web/README.md': 'test/web/run',
 }
 PROVED = 'it needs the proof of all crates, and rt ci gives the same program all lines'
 # The other commands, each with its page: the test that runs it, or why none does.
 OTHERS = {
-    ('python/README.md', 'pip install ./python'): 'test/docs/run',
-    ('python/README.md', 'make python'): 'test/docs/run',
-    ('python/README.md', 'PYTHONPATH=out/python python3'): 'it waits for code; test/docs/run imports the module of that folder',
-    ('go/README.md', 'go mod edit -require simbegyor/ndef@v0.0.0 -replace simbegyor/ndef=/path/to/simbegyor/go'): 'test/go/run',
-    ('java/README.md', 'make java'): 'test/java/run',
+    ('bindings/python/README.md', 'pip install .'): 'test/docs/run',
+    ('bindings/python/README.md', 'make python'): 'test/docs/run',
+    ('bindings/python/README.md', 'PYTHONPATH=out/python python3'): 'it waits for code; test/docs/run imports the module of that folder',
+    ('bindings/go/README.md', 'go mod edit -require simbegyor/ndef@v0.0.0 -replace simbegyor/ndef=/path/to/simbegyor/bindings/go'): 'test/go/run',
+    ('bindings/java/README.md', 'make java'): 'test/java/run',
     ('conformance/TESTING.md', 'python3 runners/run.py my_reader.py'): 'test/conformance/runners',
     ('conformance/TESTING.md', 'node runners/run.mjs my_reader.mjs'): 'test/conformance/runners',
     ('conformance/TESTING.md', 'cc runners/run.c my_reader.c -lmylibrary -o run && ./run <cases.txt'): 'test/conformance/runners',

@@ -8,13 +8,17 @@ CODE = ('*.rt', '*.antt', '*.py', '*.h', '*.c', '*.hpp', '*.cpp', '*.rs', '*.go'
 FOREIGN = set('''
     rt git apt make dpkg-dev lintian clang ctypes clap cc strip simdutf8 hex itoa arrayvec smallvec byteorder thiserror anyhow
     FetchContent add_subdirectory BUILD_SHARED_LIBS CMAKE_POSITION_INDEPENDENT_CODE subprojects REQUIRES npm requires ensures after_borrow Copy Display Eq Hash PartialEq QNdefMessage Sig
-    try_grow ERR_REQUIRE_ESM mandoc pkg-config help ndeflib type nodejs qemu-user cargo rustdoc rustfmt clippy serde
+    try_grow ArrayString ERR_REQUIRE_ESM mandoc pkg-config help ndeflib type nodejs qemu-user cargo rustdoc rustfmt clippy serde
     gcc-riscv64-linux-gnu gcc-arm-linux-gnueabihf gcc-arm-none-eabi gcc-mingw-w64-x86-64-win32 gcc-aarch64-linux-gnu
     BluetoothEasyPairingRecord BluetoothLowEnergyRecord WifiSimpleConfigRecord WifiPeerToPeerRecord DeviceInformationRecord
     SignatureRecord HandoverMediationRecord HandoverInitiateRecord
 '''.split())
 # Names that releases before this one had, and the pages that may speak of them.
-FORMER = set('simbegyor-ndef-sys OuterLanguage split_language read_text read_uri read_carrier NDEF_WRITE_ NDEF_OLD_NAMES NDEF_END_OF_INPUT NDEF_VERSION NDEF_UTF16 NDEF_EMPTY NDEF_MEDIA NDEF_FIRST NDEF_LAST NDEF_LONG'.split())
+FORMER = set('simbegyor-ndef-sys OuterLanguage split_language read_text read_uri read_carrier NDEF_WRITE_ NDEF_OLD_NAMES NDEF_END_OF_INPUT NDEF_VERSION NDEF_UTF16 NDEF_EMPTY NDEF_MEDIA NDEF_FIRST NDEF_LAST NDEF_LONG '
+             'with_pieces UsualLimits FieldRemark usualLimits fieldRemark recordRemark '
+             'ndef_program ndef_make_tool ndef_explain_tool ndef_advice heads_are_apart fields_are_told places_are_told answers_are_told fronts_are_told '
+             'checkers_are_told decoders_are_told short_tells_messages Told Wanted wanted_at few_records Ending ending_text WordsError WordsFault read_words '
+             'strange_word over with LineOf Misuse Measure Shown words_fault output_is_told links_are_told'.split())
 HISTORY = ('CHANGELOG.md', 'DECISIONS.md')
 
 
@@ -64,10 +68,11 @@ def broken_links(top, page):
 
 
 def known(top):
-    """The words of all code and scripts, and the paths of all files."""
+    """The words of all code and scripts, the names of wrong bodies, and the paths of all files."""
     files = [path for path in top.rglob('*') if path.is_file() and not {'out', '.git'} & set(path.relative_to(top).parts)]
     paths = {str(path.relative_to(top)) for path in files}
     words = {path.stem for path in files} | {folder for path in paths for folder in path.split('/')[:-1]}
+    words |= {name for path in files if path.suffix == '.edits' for name in re.findall(r'^\[(\w+)\]$', path.read_text(), re.M)}
     for path in files:
         # The names in generated code say nothing.
         if any(path.match(pattern) for pattern in CODE) and 'dist' not in path.relative_to(top).parts:

@@ -4,8 +4,10 @@
 Each block in the language begins with a comment that names its file. The files are written to the folder, where `include` and `out`
 are those of the repository, and the commands of the page's `console` blocks, lines `$ COMMAND`, run there one after another. Prints
 what is wrong: a command that prints another thing than the page shows or that ends with another status than 0, and a program that no
-command names. The status is 1 where something is. A program whose first line says `since version 0.4` is left out, with the commands that
-name it, where the header ndef.h in `include` is of an older version."""
+command names. The status is 1 where something is.
+
+Where the header ndef.h in `include` is of an older version than 0.4, a program whose first line says `since version 0.4` is left out, with the
+commands that name it, and the other programs in C get the names of today from test/c/since.h."""
 import os
 import pathlib
 import re
@@ -19,24 +21,23 @@ def blocks(text, language):
     return re.findall(rf'^```{language}\n(.*?)^```$', text, re.M | re.S)
 
 
-def is_newer(first_line, folder):
-    """Whether a program is of a newer version than the header."""
-    since = re.search(r'since version (\d+)\.(\d+)', first_line)
+def is_header_older(folder):
+    """Whether the header is of an older version than 0.4."""
     header = folder / 'include/ndef.h'
-    if not since or not header.exists():
-        return False
-    version = dict(re.findall(r'^#define NDEF_VERSION_(MAJOR|MINOR) (\d+)', header.read_text(), re.M))
-    return (int(version['MAJOR']), int(version['MINOR'])) < (int(since[1]), int(since[2]))
+    version = dict(re.findall(r'^#define NDEF_VERSION_(MAJOR|MINOR) (\d+)', header.read_text(), re.M)) if header.exists() else {}
+    return version.get('MAJOR') == '0' and int(version['MINOR']) < 4
 
 
 def written(text, language, folder):
     """The names of the programs, which are written to the folder, and whether each is left out."""
+    is_older = is_header_older(folder)
     for block in blocks(text, language):
         found = re.match(r'(?://|/\*|#) (\w+\.\w+)\b', block)
         if not found:
             raise SystemExit(f'a program has no name: {block.splitlines()[0]}')
-        (folder / found[1]).write_text(block)
-        yield found[1], is_newer(block.splitlines()[0], folder)
+        is_in_c = is_older and language == 'c'
+        (folder / found[1]).write_text(block.replace('#include "ndef.h"', f'#include "{TOP}/test/c/since.h"') if is_in_c else block)
+        yield found[1], is_older and 'since version 0.4' in block.splitlines()[0]
 
 
 def wrong(text, language, folder):

@@ -65,7 +65,7 @@ class Copy:
         for name in (*SCRIPTS, 'packaging', 'crates.txt'):
             copy = shutil.copytree if (top / name).is_dir() else shutil.copy
             copy(top / name, self.folder / name)
-        for crate in ('ndef_value', 'ndef_lang', 'ndef', 'ndef_make', 'ndef_explain'):
+        for crate in ('ndef_value', 'ndef_lang', 'ndef_commands', 'ndef_c'):
             (self.folder / 'crates' / crate / 'src').mkdir(parents=True)
             (self.folder / 'crates' / crate / 'src/main.rt').write_text('')
         (self.folder / 'dist').mkdir()
@@ -247,43 +247,43 @@ def without_rt(copy):
 def unproved(copy):
     for script in SCRIPTS:
         run = copy.run(script, '--try', 'check', '--hex')
-        yield from expect(run, 1, 'tried check --hex\n', f'{script}: running unproved; ./{script} --prove proves it first', 'error: a line of its own')
+        yield from expect(run, 1, f'tried {script} check --hex\n', f'{script}: running unproved; ./{script} --prove proves it first', 'error: a line of its own')
         if 'run=ended' in run.stderr:
             yield f"{script}: rt's own lines are shown"
     (copy.folder / 'status').write_text('0')
-    yield from expect(copy.run('ndef', '--try', 'check'), 0, 'tried check\n')
+    yield from expect(copy.run('ndef', '--try', 'check'), 0, 'tried ndef check\n')
 
 
 def unproved_with_files(copy):
     (copy.folder / 'tag.bin').write_text('bytes')
     run = copy.run('ndef-explain', '--try', 'tag.bin', 'none.bin', '../tag.bin', str(copy.folder / 'tag.bin'), '-')
-    yield from expect(run, 1, f'given tag.bin: bytes\ntried tag.bin none.bin ../tag.bin {copy.folder}/tag.bin -\n')
+    yield from expect(run, 1, f'given tag.bin: bytes\ntried ndef-explain tag.bin none.bin ../tag.bin {copy.folder}/tag.bin -\n')
 
 
 def try_comes_first(copy):
     for script in SCRIPTS:
         copy.run(script, '--prove')
-        yield from expect(copy.run(script, 'check', '--try'), 0, 'built check --try\n')
+        yield from expect(copy.run(script, 'check', '--try'), 0, f'built {script} check --try\n')
 
 
 def unproved_and_broken(copy):
     (copy.folder / 'broken').touch()
-    yield from expect(copy.run('ndef', '--try', 'show'), 3, 'tried show\n')
+    yield from expect(copy.run('ndef', '--try', 'show'), 3, 'tried ndef show\n')
 
 
 def built_once(copy):
     first = copy.run('ndef', '--prove', 'show', '--hex')
-    yield from expect(first, 0, 'built show --hex\n', 'ndef: crate 1 of {}: ndef_format, 1 of 2 functions'.format(count(first)),
+    yield from expect(first, 0, 'built ndef show --hex\n', 'ndef: crate 1 of {}: ndef_format, 1 of 2 functions'.format(count(first)),
                       'ndef: crate 4 of {}: ndef_lang, 120 of 183 functions'.format(count(first)))
     if 'processor minutes' not in first.stderr or 'ndef: proved and built in 0 minutes' not in first.stderr:
         yield f'no cost or no time in {first.stderr!r}'
-    for words in (('ndef', 'show'), ('ndef', '--prove', 'show')):
-        again = copy.run(*words, has_rt=False)
-        yield from expect(again, 0, 'built show\n')
+    for script, *words in (('ndef', 'show'), ('ndef', '--prove', 'show'), ('ndef-make', '--prove', 'show'), ('ndef-explain', 'show')):
+        again = copy.run(script, *words, has_rt=False)
+        yield from expect(again, 0, f'built {script} show\n')
         if again.stderr:
             yield f'the next run says {again.stderr!r}'
     time.sleep(0.1)
-    (copy.folder / 'crates/ndef/src/main.rt').write_text('another')
+    (copy.folder / 'crates/ndef_commands/src/main.rt').write_text('another')
     changed = copy.run('ndef', 'show', has_rt=False)
     yield from expect(changed, 0, 'dist ndef show\n')
     yield from says_only(changed, 'ndef: crates/ has changed since it was proved here; compiling release 9.8.7 of dist/, once')
@@ -292,9 +292,8 @@ def built_once(copy):
 
 def built_anew(copy):
     for script in SCRIPTS:
-        crate = script.replace('-', '_')
         copy.run(script, '--prove')
-        for source in ('ndef_lang/src/main.rt', f'{crate}/src/main.rt', 'ndef_lang/specs/New.antt'):
+        for source in ('ndef_lang/src/main.rt', 'ndef_commands/src/main.rt', 'ndef_lang/specs/New.antt'):
             path = copy.folder / 'crates' / source
             path.parent.mkdir(exist_ok=True)
             path.write_text('')
@@ -302,45 +301,41 @@ def built_anew(copy):
             os.utime(path, (time.time() + 5, time.time() + 5))
             yield from expect(copy.run(script), 0, f'dist {script}\n')
             run = copy.run(script, '--prove')
-            yield from expect(run, 0, 'built\n')
+            yield from expect(run, 0, f'built {script}\n')
             if 'processor minutes' not in run.stderr and 'a minute or two' not in run.stderr:
                 yield f'{script}: after an edit of {source} the old program ran'
             os.utime(path, (0, 0))
-        (copy.folder / 'crates' / OTHER[script] / 'src/main.rt').write_text('')
-        os.utime(copy.folder / 'crates' / OTHER[script] / 'src/main.rt', (time.time() + 5, time.time() + 5))
+        other = copy.folder / 'crates/ndef_c/src/main.rt'
+        os.utime(other, (time.time() + 5, time.time() + 5))
         if copy.run(script, '--prove', has_rt=False).returncode:
-            yield f'{script}: an edit of {OTHER[script]}, on which it does not stand, builds it anew'
-
-
-# A crate on which a script's program doesn't stand.
-OTHER = {'ndef': 'ndef_make', 'ndef-make': 'ndef_explain', 'ndef-explain': 'ndef'}
+            yield f'{script}: an edit of ndef_c, on which it does not stand, builds it anew'
 
 
 def cost_is_said(copy):
     """The cost is that of the crates that are left, by the table."""
     (copy.folder / 'packaging/processor_seconds').write_text('# seconds\nndef_value 600\nndef_lang 1190\n')
     first = copy.run('ndef', '--prove').stderr
-    count = len(crates_of(copy, 'ndef'))
+    count = len(crates_of(copy, 'ndef_commands'))
     minutes = (600 + 1190 + 60 * (count - 2) + 59) // 60
     for line in (f'ndef: proving and building the program, once (crates to prove: {count} of {count})', f'ndef: this takes some {minutes} processor minutes'):
         if line not in first:
             yield f'no {line!r} in {first!r}'
     (copy.folder / 'crates/ndef_value/out').mkdir()
     (copy.folder / 'crates/ndef_value/out/rlib').write_text('')
-    (copy.folder / 'crates/ndef/out/ndef').unlink(missing_ok=True)
+    (copy.folder / 'crates/ndef_commands/out/ndef_commands').unlink(missing_ok=True)
     second = copy.run('ndef', '--prove').stderr
     if f'(crates to prove: {count - 1} of {count})' not in second or f'some {minutes - 10} processor minutes' not in second:
         yield f'with one crate proved: {second!r}'
     # As README.md and docs/DECISIONS.md have them.
     for seconds, minutes in ((1446, 'some 25 processor minutes (12 minutes on 4 cores)'), (2529, 'some 43 processor minutes (20 minutes on 4 cores)'),
                              (181, 'some 4 processor minutes'), (180, 'a minute or two')):
-        table = ''.join('%s %d\n' % (crate, seconds if crate == 'ndef' else 0) for crate in crates_of(copy, 'ndef'))
+        table = ''.join('%s %d\n' % (crate, seconds if crate == 'ndef_commands' else 0) for crate in crates_of(copy, 'ndef_commands'))
         (copy.folder / 'packaging/processor_seconds').write_text(table)
-        (copy.folder / 'crates/ndef/out/ndef').unlink()
+        (copy.folder / 'crates/ndef_commands/out/ndef_commands').unlink()
         said = copy.run('ndef', '--prove').stderr
         if f'ndef: this takes {minutes}' not in said or ('5 GB of disk' in said) != ('some' in minutes):
             yield f'{seconds} seconds: {said!r}'
-    said = subprocess.run(['packaging/cost', 'ndef', 'ndef_c'], cwd=copy.folder, capture_output=True, text=True).stderr
+    said = subprocess.run(['packaging/cost', 'ndef_commands', 'ndef_c'], cwd=copy.folder, capture_output=True, text=True).stderr
     if 'make: proving and building the programs and the libraries, once' not in said:
         yield f'packaging/cost says {said!r}'
 
@@ -401,8 +396,8 @@ def interrupted(copy):
 
 
 def made_of(copy):
-    """packaging/made_of says crates where each of the four things is proved and newer than its sources, else dist."""
-    made = [copy.folder / 'crates' / name for name in ('ndef/out/ndef', 'ndef_make/out/ndef_make', 'ndef_explain/out/ndef_explain', 'ndef_c/out/libndef_c.a')]
+    """packaging/made_of says crates where both things are proved and newer than its sources, else dist."""
+    made = [copy.folder / 'crates' / name for name in ('ndef_commands/out/ndef_commands', 'ndef_c/out/libndef_c.a')]
     for path in made:
         path.parent.mkdir(parents=True, exist_ok=True)
         path.write_text('')
@@ -433,7 +428,7 @@ def on_a_terminal(copy):
     for words, reads in READS.items():
         waiting = [f'{words[0]}: reading {reads} from standard input'] if reads else []
         run = copy.run(*words, stdin=end)
-        yield from expect(run, 0, ' '.join(['built', *words[1:]]) + '\n', *waiting)
+        yield from expect(run, 0, ' '.join(['built', *words]) + '\n', *waiting)
         if run.stderr.splitlines() != waiting:
             yield f'{words}: on a terminal {run.stderr!r}'
         if copy.run(*words).stderr:

@@ -38,16 +38,16 @@ def wrong():
         yield f'VERSION holds {version!r}'
     version = version.strip()
     sources, cargo, maven = of_sources(version), version.replace('.dev', '-dev'), version.replace('.dev', '-SNAPSHOT')
-    man = {f'man/{name}.1': '\nThis page is of Simbegyor @VERSION@,' for name in ('ndef', 'ndef-make', 'ndef-explain')}
+    man = {f'packaging/man/{name}.1': '\nThis page is of Simbegyor @VERSION@,' for name in ('ndef', 'ndef-make', 'ndef-explain')}
     wanted = {'Makefile': '$(shell cat VERSION)', **man,
               'packaging/ndef.pc.in': 'Version: @VERSION@', 'packaging/control.in': 'Version: @VERSION@',
-              'python/METADATA.in': 'Version: @VERSION@', 'packaging/npm/package.json.in': '"version": "@VERSION@"',
+              'bindings/python/METADATA.in': 'Version: @VERSION@', 'packaging/npm/package.json.in': '"version": "@VERSION@"',
               'CHANGELOG.md': '\n## Unreleased\n' if version.endswith('.dev') else f'\n## {version} - ',
-              'java/pom.xml': f'\n  <version>{maven}</version>\n', 'java/build.gradle.kts': f'\nversion = "{maven}"\n',
-              'rust/Cargo.toml': f'\nversion = "{cargo}"\n',
-              **dict.fromkeys(('rust/Cargo.lock', 'test/fuzz/rust/Cargo.lock'), f'name = "simbegyor-ndef"\nversion = "{cargo}"\n'),
-              'crates/ndef_make_tool/src/pages.rt': f'b"ndef-make {sources}\\n"',
-              'crates/ndef_explain_tool/src/pages.rt': f'b"ndef-explain {sources}\\n"'}
+              'bindings/java/pom.xml': f'\n  <version>{maven}</version>\n', 'bindings/java/build.gradle.kts': f'\nversion = "{maven}"\n',
+              'bindings/rust/Cargo.toml': f'\nversion = "{cargo}"\n',
+              **dict.fromkeys(('bindings/rust/Cargo.lock', 'test/fuzz/rust/Cargo.lock'), f'name = "simbegyor-ndef"\nversion = "{cargo}"\n'),
+              'crates/ndef_cli_make/src/pages.rt': f'b"ndef-make {sources}\\n"',
+              'crates/ndef_cli_explain/src/pages.rt': f'b"ndef-explain {sources}\\n"'}
     for path, text in wanted.items():
         if text not in (TOP / path).read_text():
             yield f'{path} has no {text!r}'

@@ -25,12 +25,12 @@ OTHERS = {
     'include/*.h': r'/\*.*?\*/',
     'include/*.hpp': r'//[^\n]*',
     'crates/ndef_c/src/*.rt': r'(?:^ *///[^\n]*\n)+(?=(?:^ *#\[[^\n]*\n)*^ *pub (?!\())',
-    'man/*.1': r'\A.*\Z',
+    'packaging/man/*.1': r'\A.*\Z',
     'crates/ndef_tool/src/running.rt': r'b"usage[^"]*"',
-    'crates/ndef_*_tool/src/*pages.rt': r'b"[^"]*"',
-    'share/fish/*.fish': r"-d '[^']*'",
-    'python/simbegyor_ndef/__main__.py': r'\A""".*?"""|^_COMMANDS = """.*?"""|help=[^)]*',
-    'web/*.d.ts': r'/\*\*.*?\*/',
+    'crates/ndef_cli_*/src/*pages.rt': r'b"[^"]*"',
+    'packaging/share/fish/*.fish': r"-d '[^']*'",
+    'bindings/python/simbegyor_ndef/__main__.py': r'\A""".*?"""|^_COMMANDS = """.*?"""|help=[^)]*',
+    'bindings/web/*.d.ts': r'/\*\*.*?\*/',
     'packaging/**/control.in': r'^(?:Description:| )[^\n]*',
 }
 # What is code in these: an option, a call with its arguments, a member by an arrow, and the name of a member before what it is.

@@ -195,7 +195,7 @@ static void show_records(const uint8_t *bytes, ndef_size length, uint32_t flags)
         if ((kind == NDEF_KIND_REQUEST || kind == NDEF_KIND_SELECT) && handovers++ == 0 && is_read)
             show_links(bytes, length, count);
     }
-    must(ndef_rewrite(bytes, length, 0, space, ROOM, &count));
+    must(ndef_normalize(bytes, length, 0, space, ROOM, &count));
     show(" | written ", space, count);
 }
 
@@ -225,7 +225,7 @@ static void show_message(const uint8_t *bytes, ndef_size length) {
     for (uint32_t flags = 0; flags < 4; flags++) {
         ndef_limits limits;
         ndef_checked checked;
-        ndef_usual_limits(&limits);
+        ndef_default_limits(&limits);
         limits.flags = flags;
         uint32_t status = ndef_check(bytes, length, &limits, &checked);
         printf("%s%u %u,%u", flags ? " || " : "", flags, (unsigned)checked.place, checked.reason);
@@ -241,8 +241,8 @@ int main(int count, char **words) {
     FILE *file = count > 1 ? fopen(words[1], "w") : NULL;
     ndef_limits usual;
     if (file == NULL) return 2;
-    ndef_usual_limits(&usual);
-    printf("%u %u %u %u\n", usual.payload, usual.records, usual.pieces, usual.flags);
+    ndef_default_limits(&usual);
+    printf("%u %u %u %u\n", usual.payload, usual.records, usual.chunks, usual.flags);
     for (uint32_t i = 0; i < CASES + rounds; i++) {
         ndef_size length;
         if (i >= CASES) length = random_message();

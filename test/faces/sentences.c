@@ -8,7 +8,7 @@
 #include "ndef.h"
 
 enum { MOST = 1 << 20 };
-static uint8_t message[MOST], room[MOST];
+static uint8_t message[MOST], buffer[MOST];
 static char line[2 * MOST + 2];
 
 static unsigned digit(char letter) { return letter <= '9' ? (unsigned)(letter - '0') : (unsigned)(letter - 'A') + 10; }
@@ -26,8 +26,8 @@ typedef uint32_t saying(const uint8_t *bytes, ndef_size length, const ndef_limit
 /* Prints the sentence that a call writes, or a dash. */
 static void show(saying *call, ndef_size length, const ndef_limits *limits) {
     ndef_size count = 0;
-    uint32_t status = call(message, length, limits, room, MOST, &count);
-    if (status == NDEF_OK) printf(" | %.*s", (int)count, (const char *)room);
+    uint32_t status = call(message, length, limits, buffer, MOST, &count);
+    if (status == NDEF_OK) printf(" | %.*s", (int)count, (const char *)buffer);
     else if (status == NDEF_END) printf(" | -");
     else exit(2);
 }
@@ -47,10 +47,10 @@ static void show_found(ndef_size length, const ndef_limits *limits) {
 
 static void show_sentences(ndef_size length, uint32_t flags) {
     ndef_limits limits;
-    ndef_usual_limits(&limits);
+    ndef_default_limits(&limits);
     limits.flags = flags;
     printf("%u", flags);
-    show(ndef_why, length, &limits);
+    show(ndef_refusal_message, length, &limits);
     show(ndef_hint, length, &limits);
     show_found(length, &limits);
     putchar('\n');

@@ -15,6 +15,7 @@
  * front of what it prints otherwise, but for a last line that says the fault. */
 #define _GNU_SOURCE
 #include "ndef.h"
+#include "../c/since.h"
 
 #include <errno.h>
 #include <fcntl.h>
@@ -92,20 +93,20 @@ void rattle_dealloc(void *block) {
     free(block);
 }
 
-static ssize_t put(const char *text, uint8_t *room, size_t size) {
+static ssize_t put(const char *text, uint8_t *buffer, size_t size) {
     if (text == NULL) return -1;
     const size_t length = strlen(text);
-    if (size != 0) memcpy(room, text, length < size ? length : size);
+    if (size != 0) memcpy(buffer, text, length < size ? length : size);
     return length <= size ? (ssize_t)length : -2;
 }
 
-ssize_t rattle_arg(size_t index, uint8_t *room, size_t size) { return put(index < words_count ? words[index] : NULL, room, size); }
-ssize_t rattle_env(const char *name, uint8_t *room, size_t size) { return put(strcmp(name, "COLUMNS") == 0 ? "100" : NULL, room, size); }
-ssize_t rattle_env_at(size_t index, uint8_t *room, size_t size) { return put(index == 0 ? "COLUMNS=100" : NULL, room, size); }
+ssize_t rattle_arg(size_t index, uint8_t *buffer, size_t size) { return put(index < words_count ? words[index] : NULL, buffer, size); }
+ssize_t rattle_env(const char *name, uint8_t *buffer, size_t size) { return put(strcmp(name, "COLUMNS") == 0 ? "100" : NULL, buffer, size); }
+ssize_t rattle_env_at(size_t index, uint8_t *buffer, size_t size) { return put(index == 0 ? "COLUMNS=100" : NULL, buffer, size); }
 int rattle_errno(void) { return errno; }
 void rattle_set_errno(int number) { errno = number; }
 
-ssize_t __wrap_read(int file, void *room, size_t size);
+ssize_t __wrap_read(int file, void *buffer, size_t size);
 ssize_t __wrap_write(int file, const void *bytes, size_t size);
 int __wrap_isatty(int file);
 int __wrap_open(const char *name, int how, ...);
@@ -114,12 +115,12 @@ int __wrap_statx(int folder, const char *name, int how, unsigned asked, struct s
 off_t __wrap_lseek(int file, off_t by, int from);
 
 /* Gives at most as many bytes as asked for, often fewer; where `failing` says so, none and an error. */
-ssize_t __wrap_read(int file, void *room, size_t size) {
+ssize_t __wrap_read(int file, void *buffer, size_t size) {
     if ((file != 0 && file != INPUT_FILE) || failing == 1 || fails_now(READ)) return errno = EIO, -1;
     size_t left = input_length - input_at;
     if (left > size) left = size;
     if (left > 3 && input_length % 3 == 0) left = left / 2;
-    memcpy(room, input + input_at, left);
+    memcpy(buffer, input + input_at, left);
     input_at += left;
     return (ssize_t)left;
 }
@@ -212,11 +213,11 @@ static void options(uint32_t number) {
 /* The limits that those options say. */
 static ndef_limits limits_of(uint32_t number) {
     ndef_limits limits;
-    ndef_usual_limits(&limits);
+    ndef_default_limits(&limits);
     if ((number & 3) == 3) limits.flags = NDEF_STANDARD;
     if (number & 4) limits.records = number & 8 ? 2 : 65535;
     if (number & 16) limits.payload = number & 32 ? 20 : 4294967295u;
-    if (number & 64) limits.pieces = number & 128 ? 2 : 65535;
+    if (number & 64) limits.chunks = number & 128 ? 2 : 65535;
     return limits;
 }
 
@@ -265,7 +266,7 @@ static void makes(uint32_t number) {
     static const char *const types[] = { "T", "U", "Sp", "Hr", "Hs", "Hc", "x", "a/b" };
     ndef_limits limits;
     int valid;
-    ndef_usual_limits(&limits);
+    ndef_default_limits(&limits);
     begin("ndef-make");
     if (number & 1) word("carrier"), word("--format"), word("2"), word("--type"), word("a/b");
     else word("record"), word("--tnf"), word("1"), word("--type"), word(types[number >> 1 & 7]);

@@ -47,16 +47,16 @@ template <class Handover> static void read_handover(const Handover &handover, co
 }
 
 static void read_record(const ndef::record &record, const ndef::message &message, ndef::profile how) {
-    ndef::room room(joined_room);
-    const auto payload = record.payload(room);
+    ndef::buffer buffer(joined_room);
+    const auto payload = record.payload(buffer);
     hold(payload && payload->size() == record.payload_size(), "a payload has the length that its record tells");
     seen += record.id().size() + record.payload_string().size();
-    if (const auto text = record.as<ndef::text>(room, how)) read_text(*text);
-    if (const auto uri = record.as<ndef::uri>(room, how)) seen += uri->str().size();
-    if (const auto poster = record.as<ndef::poster>(room, how)) read_poster(*poster);
-    if (const auto request = record.as<ndef::request>(room, how)) read_handover(*request, message);
-    if (const auto select = record.as<ndef::select>(room, how)) read_handover(*select, message);
-    if (const auto carrier = record.as<ndef::carrier>(room, how)) seen += carrier->data().size() + carrier->type().size();
+    if (const auto text = record.as<ndef::text>(buffer, how)) read_text(*text);
+    if (const auto uri = record.as<ndef::uri>(buffer, how)) seen += uri->str().size();
+    if (const auto poster = record.as<ndef::poster>(buffer, how)) read_poster(*poster);
+    if (const auto request = record.as<ndef::request>(buffer, how)) read_handover(*request, message);
+    if (const auto select = record.as<ndef::select>(buffer, how)) read_handover(*select, message);
+    if (const auto carrier = record.as<ndef::carrier>(buffer, how)) seen += carrier->data().size() + carrier->type().size();
 }
 
 /// Reads the message with which the bytes begin. The answer has to be the library's.
@@ -74,9 +74,9 @@ static void look_at(ndef::bytes bytes, ndef::profile how) {
     }
     hold(message->octets().size() == checked.place && message->record_count() == checked.records, "the extent is the library's");
     for (const ndef::record &record : *message) read_record(record, *message, how);
-    ndef::room room(written_room);
+    ndef::buffer buffer(written_room);
     ndef_size count = 0;
-    hold(ndef_rewrite(bytes.data(), bytes.size(), 0, written_room, sizeof written_room, &count) == NDEF_OK, "a message is written again");
+    hold(ndef_normalize(bytes.data(), bytes.size(), 0, written_room, sizeof written_room, &count) == NDEF_OK, "a message is written again");
     const auto again = ndef::message::check(ndef::bytes(written_room, static_cast<std::size_t>(count)), limits);
     hold(again && again->record_count() == checked.records, "what is written again is a message");
 }

@@ -14,7 +14,7 @@ const MOST_BLOCKS = 100, MOST_BYTES = 30;
 // The least messages a second; one in twenty at least is taken, and one in twenty refused.
 const LEAST = 10;
 // These calls are given a whole message and look at one record of it, or are given no bytes.
-const ONE_RECORD = new Set(["ndef_record_at", "ndef_kind", "ndef_payload", "ndef_field_name", "ndef_usual_limits"]);
+const ONE_RECORD = new Set(["ndef_record_at", "ndef_kind", "ndef_payload", "ndef_field_name", "ndef_default_limits"]);
 
 const ndef = await Ndef.load(readFileSync(new URL("../../out/web/ndef.wasm", import.meta.url)));
 const { OK, REFUSED, KIND, STANDARD } = Ndef;

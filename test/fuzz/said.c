@@ -79,7 +79,7 @@ static void look_at_surrounded(uint32_t status, const ndef_limits *limits) {
 
 /* The sentences of what is refused; none where it is accepted. */
 static void look_at_refusal(uint32_t status, const ndef_limits *limits) {
-    const int refused = is_said(ndef_why(message, length, limits, sentence, LONGEST, &count));
+    const int refused = is_said(ndef_refusal_message(message, length, limits, sentence, LONGEST, &count));
     HOLDS(refused == (status == NDEF_REFUSED));
     found_at(message, length, limits);
     if (!is_said(ndef_hint(message, length, limits, sentence, LONGEST, &count))) return;
@@ -94,11 +94,11 @@ static void look_at_remarks(const ndef_checked *checked, const ndef_limits *limi
     HOLDS(ndef_fields(message, length, limits, fields, MOST_FIELDS, &number, &why) == NDEF_OK && number <= MOST_FIELDS);
     for (ndef_size i = 0; i < number; i++) {
         const ndef_field *field = &fields[i];
-        is_said(ndef_field_remark(field->name, message + field->at, field->length, sentence, LONGEST, &count));
+        is_said(ndef_field_warning(field->name, message + field->at, field->length, sentence, LONGEST, &count));
     }
     for (ndef_size index = 0; index < checked->records; index++)
-        is_said(ndef_record_remark(message, length, index, sentence, LONGEST, &count));
-    HOLDS(ndef_record_remark(message, length, checked->records, sentence, LONGEST, &count) == NDEF_END);
+        is_said(ndef_record_warning(message, length, index, sentence, LONGEST, &count));
+    HOLDS(ndef_record_warning(message, length, checked->records, sentence, LONGEST, &count) == NDEF_END);
 }
 
 /* Fed in parts of some bytes each, the message is answered as it is whole. */
@@ -120,7 +120,7 @@ static void look(const ndef_limits *limits) {
     look_at_refusal(status, limits);
     look_at_surrounded(status, limits);
     if (status == NDEF_OK) look_at_remarks(&checked, limits);
-    else for (ndef_size index = 0; index < 3; index++) is_said(ndef_record_remark(message, length, index, sentence, LONGEST, &count));
+    else for (ndef_size index = 0; index < 3; index++) is_said(ndef_record_warning(message, length, index, sentence, LONGEST, &count));
     feed(status, &checked, limits, 1 + messages % 7);
     feed(status, &checked, limits, 1 + length * (messages % 11) / 11);
 }

@@ -2,6 +2,7 @@
  * program itself reads inputs from standard input, as lines of hexadecimal digits. An input is two bytes that choose
  * how the message is read, and the message. What does not hold is printed, and the program aborts. */
 #include "ndef.h"
+#include "../c/since.h"
 
 #include <stdio.h>
 #include <stdlib.h>
@@ -16,9 +17,9 @@ static void fail(int line, const char *fact) {
     abort();
 }
 
-/* ---- rooms */
+/* ---- buffers */
 
-/* What a call wrote to a room of its own, which has exactly the size that the call needs. */
+/* What a call wrote to a buffer of its own, which has exactly the size that the call needs. */
 struct made {
     uint32_t status;
     ndef_size length;
@@ -27,35 +28,35 @@ struct made {
 
 /* Memory of exactly so many bytes, so that AddressSanitizer sees what lies beside it. */
 static uint8_t *filled(ndef_size size, uint8_t with) {
-    uint8_t *room = malloc(size ? size : 1);
-    HOLDS(room != NULL);
-    memset(room, with, size ? size : 1);
-    return room;
+    uint8_t *buffer = malloc(size ? size : 1);
+    HOLDS(buffer != NULL);
+    memset(buffer, with, size ? size : 1);
+    return buffer;
 }
 
-static int is_filled(const uint8_t *room, ndef_size size, uint8_t with) {
+static int is_filled(const uint8_t *buffer, ndef_size size, uint8_t with) {
     for (ndef_size i = 0; i < size; i++)
-        if (room[i] != with) return 0;
+        if (buffer[i] != with) return 0;
     return 1;
 }
 
-/* Makes a call, which names `room`, `size` and `count`, four times: with no room, with a room that is one byte short,
+/* Makes a call, which names `buffer`, `size` and `count`, four times: with no room, with a buffer that is one byte short,
  * with one that is too large, and with one that is exact. */
 #define MAKE(made, call) do { \
-    uint8_t *room = NULL, *larger = NULL; \
+    uint8_t *buffer = NULL, *larger = NULL; \
     ndef_size size = 0, count = 0; \
     (made)->status = (call), (made)->length = count, (made)->bytes = NULL; \
-    HOLDS((made)->status == NDEF_NO_ROOM || count == 0); \
-    if ((made)->status == NDEF_NO_ROOM) { \
+    HOLDS((made)->status == NDEF_BUFFER_TOO_SMALL || count == 0); \
+    if ((made)->status == NDEF_BUFFER_TOO_SMALL) { \
         HOLDS(count > 0); \
-        size = (made)->length - 1, room = filled(size, 0x5a); \
-        HOLDS((call) == NDEF_NO_ROOM && count == (made)->length && is_filled(room, size, 0x5a)); \
-        free(room); \
-        size = (made)->length + 3, room = larger = filled(size, 0xc3); \
-        HOLDS((call) == NDEF_OK && count == (made)->length && is_filled(room + count, 3, 0xc3)); \
-        size = (made)->length, room = filled(size, 0x5a); \
-        (made)->status = (call), (made)->bytes = room; \
-        HOLDS((made)->status == NDEF_OK && count == size && memcmp(room, larger, size) == 0); \
+        size = (made)->length - 1, buffer = filled(size, 0x5a); \
+        HOLDS((call) == NDEF_BUFFER_TOO_SMALL && count == (made)->length && is_filled(buffer, size, 0x5a)); \
+        free(buffer); \
+        size = (made)->length + 3, buffer = larger = filled(size, 0xc3); \
+        HOLDS((call) == NDEF_OK && count == (made)->length && is_filled(buffer + count, 3, 0xc3)); \
+        size = (made)->length, buffer = filled(size, 0x5a); \
+        (made)->status = (call), (made)->bytes = buffer; \
+        HOLDS((made)->status == NDEF_OK && count == size && memcmp(buffer, larger, size) == 0); \
         free(larger); \
     } \
 } while (0)
@@ -67,10 +68,10 @@ static int is_filled(const uint8_t *room, ndef_size size, uint8_t with) {
     ndef_size size = 0, count = 0; \
     const uint32_t asked = (call); \
     (list) = NULL, (number) = count; \
-    HOLDS(asked == NDEF_NO_ROOM || count == 0); \
-    if (asked == NDEF_NO_ROOM) { \
+    HOLDS(asked == NDEF_BUFFER_TOO_SMALL || count == 0); \
+    if (asked == NDEF_BUFFER_TOO_SMALL) { \
         size = (number) - 1, array = filled(size * sizeof *(list), 0x5a); \
-        HOLDS((call) == NDEF_NO_ROOM && count == (number) && is_filled(array, size * sizeof *(list), 0x5a)); \
+        HOLDS((call) == NDEF_BUFFER_TOO_SMALL && count == (number) && is_filled(array, size * sizeof *(list), 0x5a)); \
         free(array); \
         size = (number), array = filled(size * sizeof *(list), 0x5a); \
         HOLDS((call) == NDEF_OK && count == (number)); \
@@ -123,24 +124,24 @@ static uint32_t check(const uint8_t *bytes, ndef_size length, const ndef_limits 
 /* ---- payloads: each is read as every type, and what is read is written and read again */
 
 /* A record that is appended in place, twice, is what ndef_append makes of the payload that was written; with a byte too
- * few the message stays as it was. The call names `state`, `room`, `size` and `count`. */
+ * few the message stays as it was. The call names `state`, `buffer`, `size` and `count`. */
 #define APPENDED(type, payload, payload_length, call) do { \
     const ndef_writing how = { NDEF_TNF_WELL_KNOWN, 0, 0 }; \
-    ndef_built one = { 0, 0, 0 }, other = { 0, 0, 0 }; \
+    ndef_message_builder one = { 0, 0, 0 }, other = { 0, 0, 0 }; \
     const ndef_size most = 2 * (16 + (payload_length)); \
-    uint8_t *room = filled(most, 0x5a), *same = filled(most, 0x5a); \
+    uint8_t *buffer = filled(most, 0x5a), *same = filled(most, 0x5a); \
     for (int i = 0; i < 2; i++) { \
-        ndef_built *state = &one; \
+        ndef_message_builder *state = &one; \
         ndef_size size = most, count = 0, needed = 0; \
         HOLDS(ndef_append(&other, (const uint8_t *)(type), 1, NULL, 0, payload, payload_length, &how, same, most, \
                           &needed) == NDEF_OK); \
         size = needed - 1; \
-        HOLDS((call) == NDEF_NO_ROOM && count == needed && one.records == (uint32_t)i); \
+        HOLDS((call) == NDEF_BUFFER_TOO_SMALL && count == needed && one.records == (uint32_t)i); \
         size = needed; \
-        HOLDS((call) == NDEF_OK && count == needed && memcmp(room, same, most) == 0); \
+        HOLDS((call) == NDEF_OK && count == needed && memcmp(buffer, same, most) == 0); \
         HOLDS(one.length == other.length && one.last_at == other.last_at && one.records == other.records); \
     } \
-    free(room), free(same); \
+    free(buffer), free(same); \
 } while (0)
 
 static void look_at_text(const uint8_t *payload, ndef_size length) {
@@ -148,7 +149,7 @@ static void look_at_text(const uint8_t *payload, ndef_size length) {
     ndef_checked why, other;
     struct made text, written, back;
     const uint32_t status = ndef_text(payload, length, &parts, &why);
-    MAKE(&text, ndef_text_in_utf8(payload, length, room, size, &count, &other));
+    MAKE(&text, ndef_text_in_utf8(payload, length, buffer, size, &count, &other));
     HOLDS(text.status == status);
     if (status != NDEF_OK) {
         HOLDS(status == NDEF_REFUSED && why.place == other.place && why.reason == other.reason && why.place <= length);
@@ -159,13 +160,13 @@ static void look_at_text(const uint8_t *payload, ndef_size length) {
     HOLDS(parts.utf16 || is_same(&text, payload + parts.text_at, parts.text_length));
     for (uint32_t flags = 0; flags <= NDEF_AS_UTF16; flags++) {
         MAKE(&written, ndef_write_text(payload + parts.language_at, parts.language_length, text.bytes, text.length,
-                                       flags, room, size, &count));
+                                       flags, buffer, size, &count));
         HOLDS(written.status == NDEF_OK && ndef_text(written.bytes, written.length, &again, &why) == NDEF_OK);
         HOLDS(again.language_length == parts.language_length && again.utf16 == flags);
         APPENDED("T", written.bytes, written.length,
                  ndef_append_text(state, NULL, 0, payload + parts.language_at, parts.language_length, text.bytes,
-                                  text.length, flags, room, size, &count));
-        MAKE(&back, ndef_text_in_utf8(written.bytes, written.length, room, size, &count, &why));
+                                  text.length, flags, buffer, size, &count));
+        MAKE(&back, ndef_text_in_utf8(written.bytes, written.length, buffer, size, &count, &why));
         HOLDS(is_same(&back, text.bytes, text.length));
         discard(&written), discard(&back);
     }
@@ -177,9 +178,9 @@ static void look_at_uri_parts(const uint8_t *payload, ndef_size length, uint32_t
     ndef_uri_parts parts;
     ndef_checked why;
     struct made prefix;
-    HOLDS(ndef_uri_view(payload, length, flags, &parts, &why) == uri->status);
+    HOLDS(ndef_split_uri(payload, length, flags, &parts, &why) == uri->status);
     if (uri->status != NDEF_OK) return;
-    MAKE(&prefix, ndef_uri_prefix(parts.code, room, size, &count));
+    MAKE(&prefix, ndef_uri_prefix(parts.code, buffer, size, &count));
     HOLDS(prefix.status == NDEF_OK && prefix.length + parts.rest_length == uri->length);
     HOLDS(is_within(parts.rest_at, parts.rest_length, length));
     HOLDS(prefix.length == 0 || memcmp(uri->bytes, prefix.bytes, prefix.length) == 0);
@@ -191,17 +192,17 @@ static void look_at_uri_parts(const uint8_t *payload, ndef_size length, uint32_t
 static void look_at_uri(const uint8_t *payload, ndef_size length, uint32_t flags) {
     ndef_checked why;
     struct made uri, written, back;
-    MAKE(&uri, ndef_uri(payload, length, flags, room, size, &count, &why));
+    MAKE(&uri, ndef_uri(payload, length, flags, buffer, size, &count, &why));
     look_at_uri_parts(payload, length, flags, &uri);
     if (uri.status != NDEF_OK) {
         HOLDS(uri.status == NDEF_REFUSED && why.place <= length);
         return;
     }
-    MAKE(&written, ndef_write_uri(uri.bytes, uri.length, room, size, &count));
+    MAKE(&written, ndef_write_uri(uri.bytes, uri.length, buffer, size, &count));
     HOLDS(written.status == NDEF_OK && written.length <= uri.length + 1);
     APPENDED("U", written.bytes, written.length,
-             ndef_append_uri(state, NULL, 0, uri.bytes, uri.length, room, size, &count));
-    MAKE(&back, ndef_uri(written.bytes, written.length, 0, room, size, &count, &why));
+             ndef_append_uri(state, NULL, 0, uri.bytes, uri.length, buffer, size, &count));
+    MAKE(&back, ndef_uri(written.bytes, written.length, 0, buffer, size, &count, &why));
     HOLDS(is_same(&back, uri.bytes, uri.length));
     discard(&uri), discard(&written), discard(&back);
 }
@@ -213,7 +214,7 @@ static void look_at_carrier(const uint8_t *payload, ndef_size length) {
     if (ndef_carrier(payload, length, &parts, &why) != NDEF_OK) return;
     HOLDS(is_within(parts.type_at, parts.type_length, length) && is_within(parts.data_at, parts.data_length, length));
     MAKE(&written, ndef_write_carrier(parts.format, payload + parts.type_at, parts.type_length, payload + parts.data_at,
-                                      parts.data_length, room, size, &count));
+                                      parts.data_length, buffer, size, &count));
     HOLDS(written.status == NDEF_OK && written.length == length);
     HOLDS(memcmp(written.bytes + 1, payload + 1, length - 1) == 0);
     HOLDS(ndef_carrier(written.bytes, written.length, &again, &why) == NDEF_OK && again.format == parts.format);
@@ -238,7 +239,7 @@ static void look_at_alternative(const uint8_t *payload, ndef_size length) {
         HOLDS(part.at == parts[i].at && part.length == parts[i].length);
     }
     HOLDS(ndef_reference(payload, length, told.references, &part) == NDEF_END);
-    MAKE(&written, ndef_write_alternative(told.power, payload, length, parts, told.references, room, size, &count));
+    MAKE(&written, ndef_write_alternative(told.power, payload, length, parts, told.references, buffer, size, &count));
     HOLDS(written.status == NDEF_OK && written.length <= length);
     HOLDS(memcmp(written.bytes + 1, payload + 1, written.length - 1) == 0);
     HOLDS(ndef_alternative(written.bytes, written.length, &again, &why) == NDEF_OK);
@@ -253,11 +254,11 @@ static void look_at_error(const uint8_t *payload, ndef_size length) {
     struct made written;
     if (ndef_error(payload, length, &parts, &why) != NDEF_OK) return;
     HOLDS(is_within(parts.data_at, parts.data_length, length));
-    MAKE(&written, ndef_write_error(parts.reason, payload + parts.data_at, parts.data_length, room, size, &count));
+    MAKE(&written, ndef_write_error(parts.reason, payload + parts.data_at, parts.data_length, buffer, size, &count));
     HOLDS(is_same(&written, payload, length));
     discard(&written);
     if (!parts.has_number) return;
-    MAKE(&written, ndef_write_error_number(parts.reason, parts.number, room, size, &count));
+    MAKE(&written, ndef_write_error_number(parts.reason, parts.number, buffer, size, &count));
     HOLDS(is_same(&written, payload, length));
     discard(&written);
 }
@@ -321,7 +322,7 @@ static void write_poster(const uint8_t *payload, ndef_size length, const ndef_po
     ndef_part media = { 0, 0 }, other = { 0, 0 };
     ndef_checked why;
     struct made uri, written;
-    MAKE(&uri, ndef_uri(payload + parts->uri_at, parts->uri_length, 0, room, size, &count, &why));
+    MAKE(&uri, ndef_uri(payload + parts->uri_at, parts->uri_length, 0, buffer, size, &count, &why));
     LIST(titles, number, ndef_poster_titles(payload, length, array, size, &count));
     const uint32_t has_media = ndef_poster_media_type(payload, length, &media) == NDEF_OK;
     uint8_t *bytes = filled(length + uri.length, 0);
@@ -339,7 +340,7 @@ static void write_poster(const uint8_t *payload, ndef_size length, const ndef_po
     const ndef_poster_writing how = { { length, uri.length }, media, has_media, parts->has_action, parts->action,
                                       parts->has_size, parts->size };
     if (are_utf8) {
-        MAKE(&written, ndef_write_poster(bytes, length + uri.length, &how, said, number, &icon, 1, room, size, &count));
+        MAKE(&written, ndef_write_poster(bytes, length + uri.length, &how, said, number, &icon, 1, buffer, size, &count));
         HOLDS(written.status == NDEF_OK && ndef_poster(written.bytes, written.length, 0, &again, &why) == NDEF_OK);
         HOLDS(again.has_action == parts->has_action && again.action == parts->action);
         HOLDS(again.has_size == parts->has_size && again.size == parts->size);
@@ -362,7 +363,7 @@ static void look_at_poster(const uint8_t *payload, ndef_size length, uint32_t fl
     if (read != NDEF_OK) return;
     HOLDS(is_within(parts.uri_at, parts.uri_length, length));
     const uint32_t status = ndef_uri(payload + parts.uri_at, parts.uri_length, flags, &byte, 0, &count, &why);
-    HOLDS(status == NDEF_OK || status == NDEF_NO_ROOM);
+    HOLDS(status == NDEF_OK || status == NDEF_BUFFER_TOO_SMALL);
     HOLDS(parts.has_action <= 1 && (parts.has_action || parts.action == 0));
     HOLDS(parts.has_size <= 1 && (parts.has_size || parts.size == 0));
     if (flags == 0) write_poster(payload, length, &parts);
@@ -441,7 +442,7 @@ static void write_request(const uint8_t *payload, ndef_size length, const ndef_r
     ndef_checked why;
     struct made written;
     MAKE(&written, ndef_write_request(parts->minor, parts->collision, payload, length, c.references, c.all,
-                                      c.alternatives, c.number, room, size, &count));
+                                      c.alternatives, c.number, buffer, size, &count));
     HOLDS(written.status == NDEF_OK && ndef_request(written.bytes, written.length, 0, &again, &why) == NDEF_OK);
     HOLDS(again.carriers == parts->carriers && again.minor == parts->minor && again.collision == parts->collision);
     discard(&written), free(c.alternatives), free(c.references);
@@ -454,7 +455,7 @@ static void write_select(const uint8_t *payload, ndef_size length, const ndef_se
     ndef_select_parts again;
     ndef_checked why;
     struct made written;
-    MAKE(&written, ndef_write_select(&how, payload, length, c.references, c.all, c.alternatives, c.number, room, size,
+    MAKE(&written, ndef_write_select(&how, payload, length, c.references, c.all, c.alternatives, c.number, buffer, size,
                                      &count));
     HOLDS(written.status == NDEF_OK && ndef_select(written.bytes, written.length, 0, &again, &why) == NDEF_OK);
     HOLDS(again.carriers == parts->carriers && again.minor == parts->minor && again.has_error == parts->has_error);
@@ -477,13 +478,13 @@ static void look_at_handover(const uint8_t *bytes, ndef_size length, const uint8
         HOLDS(is_within(select.detail_at, select.detail_length, payload_length));
         if (!is_request) look_at_links(bytes, length, payload, payload_length, select.carriers);
         MAKE(&written, ndef_write_handover(NDEF_SELECT, select.major, select.minor, payload + 1, payload_length - 1,
-                                           room, size, &count));
+                                           buffer, size, &count));
         HOLDS(is_same(&written, payload, payload_length) || (flags && written.status == NDEF_BAD_ARGUMENT));
         discard(&written);
     }
     if (is_request && flags == 0) {
         MAKE(&written, ndef_write_handover(NDEF_REQUEST, request.major, request.minor, payload + 1, payload_length - 1,
-                                           room, size, &count));
+                                           buffer, size, &count));
         HOLDS(is_same(&written, payload, payload_length));
         discard(&written);
     }
@@ -518,7 +519,7 @@ static void write_record(const uint8_t *bytes, const ndef_record *record, const 
         const ndef_writing how = { record->tnf, NDEF_WRITE_FIRST | NDEF_WRITE_LAST | form,
                                    record->tnf == NDEF_TNF_EMPTY ? 0 : chunk };
         MAKE(&written, ndef_write_record(bytes + record->type_at, record->type_length, bytes + record->id_at,
-                                         record->id_length, payload->bytes, payload->length, &how, room, size, &count));
+                                         record->id_length, payload->bytes, payload->length, &how, buffer, size, &count));
         HOLDS(written.status == (can_be_written(record) ? NDEF_OK : NDEF_BAD_ARGUMENT));
         if (written.status != NDEF_OK) return;
         HOLDS(ndef_record_at(written.bytes, written.length, 0, &again) == NDEF_OK);
@@ -526,7 +527,7 @@ static void write_record(const uint8_t *bytes, const ndef_record *record, const 
         HOLDS(again.type_length == record->type_length && again.id_length == record->id_length);
         HOLDS(memcmp(written.bytes + again.type_at, bytes + record->type_at, again.type_length) == 0);
         HOLDS(memcmp(written.bytes + again.id_at, bytes + record->id_at, again.id_length) == 0);
-        MAKE(&back, ndef_payload(written.bytes, written.length, 0, room, size, &count));
+        MAKE(&back, ndef_payload(written.bytes, written.length, 0, buffer, size, &count));
         HOLDS(is_same(&back, payload->bytes, payload->length));
         discard(&written), discard(&back);
     }
@@ -550,8 +551,8 @@ static void look_at_pieces(const uint8_t *bytes, ndef_size length, const ndef_re
     ndef_part *parts;
     ndef_size number, at = 0;
     look_at_payload_fields(bytes + record->type_at, record->type_length, record->tnf, payload);
-    LIST(parts, number, ndef_pieces(bytes, length, record->at, array, size, &count));
-    HOLDS(number == record->pieces && parts[0].at == record->payload_at && parts[0].length == record->part_length);
+    LIST(parts, number, ndef_chunks(bytes, length, record->at, array, size, &count));
+    HOLDS(number == record->chunks && parts[0].at == record->payload_at && parts[0].length == record->part_length);
     for (ndef_size i = 0; i < number; at += parts[i].length, i++) {
         HOLDS(is_within(parts[i].at, parts[i].length, record->end) && parts[i].length <= payload->length - at);
         HOLDS(parts[i].length == 0 || memcmp(payload->bytes + at, bytes + parts[i].at, parts[i].length) == 0);
@@ -578,26 +579,26 @@ static void find(const uint8_t *bytes, ndef_size length, const ndef_record *reco
 static void build(const uint8_t *bytes, const ndef_record *record, const struct made *payload, uint32_t chunk) {
     const ndef_writing how = { record->tnf, chunk & NDEF_WRITE_LONG, record->tnf == NDEF_TNF_EMPTY ? 0 : chunk };
     const ndef_limits most = { UINT32_MAX, 65535, 65535, NDEF_OPAQUE };
-    ndef_built built = { 0, 0, 0 };
+    ndef_message_builder built = { 0, 0, 0 };
     ndef_checked checked;
     if (!can_be_written(record)) return;
     const ndef_size size = 2 * (16 + record->type_length + record->id_length + 8 * payload->length);
-    uint8_t *room = filled(size, 0x5a);
+    uint8_t *buffer = filled(size, 0x5a);
     for (uint32_t number = 1; number <= 2; number++) {
         ndef_size count = 0, needed = 0;
-        const ndef_built before = built;
+        const ndef_message_builder before = built;
 #define APPEND(size, count) ndef_append(&built, bytes + record->type_at, record->type_length, bytes + record->id_at, \
-        record->id_length, payload->bytes, payload->length, &how, room, size, count)
-        HOLDS(APPEND(built.length, &needed) == NDEF_NO_ROOM && APPEND(needed - 1, &count) == NDEF_NO_ROOM);
+        record->id_length, payload->bytes, payload->length, &how, buffer, size, count)
+        HOLDS(APPEND(built.length, &needed) == NDEF_BUFFER_TOO_SMALL && APPEND(needed - 1, &count) == NDEF_BUFFER_TOO_SMALL);
         HOLDS(count == needed && built.length == before.length && built.records == before.records);
-        HOLDS(is_filled(room + before.length, size - before.length, 0x5a));
+        HOLDS(is_filled(buffer + before.length, size - before.length, 0x5a));
         HOLDS(APPEND(needed, &count) == NDEF_OK && count == needed && built.length == needed);
-        HOLDS(is_filled(room + needed, size - needed, 0x5a));
-        HOLDS(ndef_check(room, needed, &most, &checked) == NDEF_OK && checked.place == needed);
+        HOLDS(is_filled(buffer + needed, size - needed, 0x5a));
+        HOLDS(ndef_check(buffer, needed, &most, &checked) == NDEF_OK && checked.place == needed);
         HOLDS(checked.records == number && built.records == number);
 #undef APPEND
     }
-    free(room);
+    free(buffer);
 }
 
 /* Walks as far as records go; tells where the walk ends, how many records there are, and whether the last says so. */
@@ -607,15 +608,15 @@ static ndef_size walk(const uint8_t *bytes, ndef_size length, uint32_t chunk, ui
     ndef_size at = 0;
     *records = 0, *is_last = 0;
     while (!*is_last && ndef_record_at(bytes, length, at, &record) == NDEF_OK) {
-        HOLDS(record.at == at && record.end > at && record.end <= length && record.pieces > 0 && record.tnf <= 5);
+        HOLDS(record.at == at && record.end > at && record.end <= length && record.chunks > 0 && record.tnf <= 5);
         HOLDS(is_within(record.type_at, record.type_length, record.end));
         HOLDS(is_within(record.id_at, record.id_length, record.end));
         HOLDS(is_within(record.payload_at, record.part_length, record.end));
         HOLDS(record.part_length <= record.payload_length);
-        MAKE(&payload, ndef_payload(bytes, length, at, room, size, &count));
+        MAKE(&payload, ndef_payload(bytes, length, at, buffer, size, &count));
         HOLDS(payload.status == NDEF_OK && payload.length == record.payload_length);
         HOLDS(record.part_length == 0 || memcmp(payload.bytes, bytes + record.payload_at, record.part_length) == 0);
-        HOLDS(record.pieces > 1 || record.payload_at + record.payload_length == record.end);
+        HOLDS(record.chunks > 1 || record.payload_at + record.payload_length == record.end);
         write_record(bytes, &record, &payload, 0);
         write_record(bytes, &record, &payload, chunk);
         look_at_pieces(bytes, length, &record, &payload);
@@ -633,21 +634,21 @@ static void rewrite(const uint8_t *bytes, ndef_size length, uint32_t records) {
     for (uint32_t flags = 0; flags <= NDEF_WRITE_LONG; flags += NDEF_WRITE_LONG) {
         struct made made, again, payload, same;
         ndef_record one, other;
-        MAKE(&made, ndef_rewrite(bytes, length, flags, room, size, &count));
+        MAKE(&made, ndef_normalize(bytes, length, flags, buffer, size, &count));
         if (made.status != NDEF_OK) {
             HOLDS(made.status == NDEF_BAD_ARGUMENT);
             continue;
         }
-        MAKE(&again, ndef_rewrite(made.bytes, made.length, flags, room, size, &count));
+        MAKE(&again, ndef_normalize(made.bytes, made.length, flags, buffer, size, &count));
         HOLDS(is_same(&again, made.bytes, made.length));
         ndef_size at = 0, to = 0;
         for (uint32_t i = 0; i < records; i++) {
             HOLDS(ndef_record_at(bytes, length, at, &one) == NDEF_OK);
             HOLDS(ndef_record_at(made.bytes, made.length, to, &other) == NDEF_OK);
-            HOLDS(other.pieces == 1 && other.tnf == one.tnf && other.last == one.last);
+            HOLDS(other.chunks == 1 && other.tnf == one.tnf && other.last == one.last);
             HOLDS(other.type_length == one.type_length && other.id_length == one.id_length);
-            MAKE(&payload, ndef_payload(bytes, length, at, room, size, &count));
-            MAKE(&same, ndef_payload(made.bytes, made.length, to, room, size, &count));
+            MAKE(&payload, ndef_payload(bytes, length, at, buffer, size, &count));
+            MAKE(&same, ndef_payload(made.bytes, made.length, to, buffer, size, &count));
             HOLDS(is_same(&same, payload.bytes, payload.length));
             discard(&payload), discard(&same);
             at = one.end, to = other.end;
@@ -691,10 +692,10 @@ static void look_at_fields(const uint8_t *bytes, ndef_size length, const ndef_li
         HOLDS(asked == NDEF_BAD_ARGUMENT && count == 0);
         return;
     }
-    HOLDS(asked == (count ? (uint32_t)NDEF_NO_ROOM : status) && is_checked(&why, checked));
+    HOLDS(asked == (count ? (uint32_t)NDEF_BUFFER_TOO_SMALL : status) && is_checked(&why, checked));
     ndef_field *fields = (ndef_field *)filled(count * sizeof *fields, 0x5a);
     if (count) {
-        HOLDS(ndef_fields(bytes, length, limits, fields, count - 1, &again, &why) == NDEF_NO_ROOM && again == count);
+        HOLDS(ndef_fields(bytes, length, limits, fields, count - 1, &again, &why) == NDEF_BUFFER_TOO_SMALL && again == count);
         HOLDS(is_checked(&why, checked) && is_filled((uint8_t *)fields, count * sizeof *fields, 0x5a));
     }
     HOLDS(ndef_fields(bytes, length, limits, fields, count, &again, &why) == status && again == count);

@@ -15,7 +15,7 @@ from harness import count  # noqa: E402
 
 COPY = pathlib.Path(sys.argv[1])
 HEADER, NAMES, CRATE = 'include/ndef.h', 'include/ndef_names.h', 'crates/ndef_c/src/'
-WRITTEN = (HEADER, NAMES, 'share/interface.json', 'test/c/layout.c', 'python/simbegyor_ndef/_interface.py', 'web/interface.js',
+WRITTEN = (HEADER, NAMES, 'packaging/share/interface.json', 'test/c/layout.c', 'bindings/python/simbegyor_ndef/_interface.py', 'bindings/web/interface.js',
            'docs/BINDINGS.md')
 FACES = ('C++', 'Python', 'Rust', 'JavaScript', 'Java', 'Go')
 END = '#include "ndef_names.h"'
@@ -79,26 +79,26 @@ def unreached(name):
 
 def generated():
     """What each generated file has of the call and its struct, and whether compilers take it."""
-    for path, said in (('web/interface.js', '    octet_sum_parts: { size: 16, members: { added: [0, 8], sum: [8, 4] } },'),
-                       ('web/interface.js', '    ndef_octet_sum: "i32 i64 i32", // bytes, length, out'),
+    for path, said in (('bindings/web/interface.js', '    octet_sum_parts: { size: 16, members: { added: [0, 8], sum: [8, 4] } },'),
+                       ('bindings/web/interface.js', '    ndef_octet_sum: "i32 i64 i32", // bytes, length, out'),
                        ('test/c/layout.c', 'AT(ndef_octet_sum_parts, sum, uint32_t, 8);'),
                        ('docs/BINDINGS.md', '| ndef_octet_sum | yes | ? | ? | ? | ? | ? | ? |')):
         count(f'{path} has {said.strip()!r}', f'{said}\n' in read(path))
-    described = json.loads(read('share/interface.json'))
+    described = json.loads(read('packaging/share/interface.json'))
     call = next(call for call in described['calls'] if call['name'] == 'ndef_octet_sum')
     count('the description has the call', call['answers'] == ['NDEF_OK', 'NDEF_BAD_ARGUMENT'] and
           [one['role'] for one in call['parameters']] == ['array', 'length', 'out'] and call['text'].startswith('Adds up octets, for `NdefOctetSum`'), call)
-    python = ('import importlib.util as i, ctypes; s = i.spec_from_file_location("m", "python/simbegyor_ndef/_interface.py")\n'
+    python = ('import importlib.util as i, ctypes; s = i.spec_from_file_location("m", "bindings/python/simbegyor_ndef/_interface.py")\n'
               'm = i.module_from_spec(s); s.loader.exec_module(m); print(ctypes.sizeof(m.OctetSumParts), m.OctetSumParts.sum.offset, m.Calls.octet_sum)')
     told = run(sys.executable, '-c', python).stdout
     count('Python has the struct and the call', told.startswith('16 8 <function Calls.octet_sum'), told)
     told = run(os.environ.get('CC', 'cc'), '-fsyntax-only', '-Iinclude', 'test/c/layout.c')
     count('the layouts compile', told.returncode == 0, told.stdout)
     if harness.has('cargo'):
-        told = run('cargo', 'check', '--offline', cwd=COPY / 'rust', env={**os.environ, 'DOCS_RS': '1', 'CARGO_TARGET_DIR': str(COPY / 'target')})
+        told = run('cargo', 'check', '--offline', cwd=COPY / 'bindings/rust', env={**os.environ, 'DOCS_RS': '1', 'CARGO_TARGET_DIR': str(COPY / 'target')})
         count('the declarations of Rust compile', told.returncode == 0, told.stdout)
     if harness.has('node'):
-        told = run('node', '--check', 'web/interface.js')
+        told = run('node', '--check', 'bindings/web/interface.js')
         count('node reads the tables for JavaScript', told.returncode == 0, told.stdout)
 
 
@@ -122,7 +122,7 @@ def added_call():
 
 def places():
     """Where the header gets a call of a file that it knows."""
-    path = CRATE + 'uri_view.rt'
+    path = CRATE + 'uri_parts.rt'
     call = re.search(r'/// Adds up.*\Z', (HERE / 'octet_sum.rt.txt').read_text(), re.S)[0].replace('NdefOctetSum', 'NdefUri')
     for name, edit, first, then in (('last', lambda text: text + '\n' + call, 'ndef_uri_prefix', 'ndef_octet_sum'),
                                     ('first', lambda text: text.replace('/// A URI:', call + '\n/// A URI:'), 'ndef_uri_parts;', 'ndef_octet_sum')):

@@ -6,7 +6,7 @@ import org.simbegyor.ndef.*;
 import org.simbegyor.ndef.android.MessageParcel;
 import org.simbegyor.ndef.android.Nfc;
 
-/** What goes to Android and comes from there, over the classes in the folder android, and the program of java/README.md. */
+/** What goes to Android and comes from there, over the classes in the folder android, and the program of bindings/java/README.md. */
 final class Bridge {
     private static final String HELLO = "D101085402656E48656C6C6F";
 

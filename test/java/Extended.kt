@@ -6,7 +6,7 @@ import org.simbegyor.ndef.SmartPoster
 import org.simbegyor.ndef.TextRecord
 import org.simbegyor.ndef.kotlin.*
 
-/** What java/kotlin/Extensions.kt gives; the compiler finds where something may be null. */
+/** What bindings/java/kotlin/Extensions.kt gives; the compiler finds where something may be null. */
 fun main() {
     val poster = SmartPoster.builder("https://a").title("en", "Title").build()
     val message = "Hello".toTextRecord("en") + "tel:1".toUriRecord() + poster.toRecord() + NdefRecord.createMime("a/b", null)

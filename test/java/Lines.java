@@ -23,9 +23,9 @@ final class Lines {
         try (BufferedReader messages = Files.newBufferedReader(Path.of(words[0]));
                 PrintWriter out = new PrintWriter(new BufferedWriter(new OutputStreamWriter(System.out,
                         StandardCharsets.US_ASCII), 1 << 16))) {
-            Limits usual = Limits.usual();
+            Limits usual = Limits.defaults();
             int flags = usual.isOpaque() ? 2 : 0;
-            out.println(usual.payload() + " " + usual.records() + " " + usual.pieces() + " " + flags);
+            out.println(usual.payload() + " " + usual.records() + " " + usual.chunks() + " " + flags);
             for (String hex = messages.readLine(); hex != null; hex = messages.readLine()) {
                 Lines lines = new Lines();
                 lines.showMessage(Cases.unhex(hex));
@@ -209,7 +209,7 @@ final class Lines {
 
     private void showMessage(byte[] bytes) {
         for (int flags = 0; flags < 4; flags++) {
-            Limits limits = Limits.usual().withOpaque(flags >= 2);
+            Limits limits = Limits.defaults().withOpaque(flags >= 2);
             Profile profile = flags % 2 == 1 ? Profile.STANDARD : Profile.STRICT;
             show(flags == 0 ? "0 " : " || " + flags + " ");
             try {

@@ -85,7 +85,7 @@ final class Load {
         int each = 500;
         byte[] head = Cases.unhex("c10100f42403" + "54" + "02656e");
         byte[] letters = Suite.bytes("ü".repeat(2000));
-        Limits limits = Limits.usual().withPayload(16000003);
+        Limits limits = Limits.defaults().withPayload(16000003);
         ExecutorService threads = Executors.newFixedThreadPool(THREADS);
         CyclicBarrier begin = new CyclicBarrier(THREADS);
         for (int round = 0; round < rounds; round++) {
@@ -190,13 +190,13 @@ final class Load {
         for (int i = 0; i < count; i++) {
             records[i] = NdefRecord.createUri("tel:" + i);
         }
-        return NdefMessage.of(records, Limits.usual().withRecords(count), Profile.STRICT);
+        return NdefMessage.of(records, Limits.defaults().withRecords(count), Profile.STRICT);
     }
 
     private static void manyRecords(int count) throws FormatException {
         NdefMessage message = short_(count);
         byte[] bytes = message.toByteArray();
-        Limits limits = Limits.usual().withRecords(count);
+        Limits limits = Limits.defaults().withRecords(count);
         Cases.same("message", message, NdefMessage.parse(bytes, limits, Profile.STRICT));
         Cases.same("fields", 6 * count, Fields.of(bytes, limits, Profile.STRICT).size());
     }
@@ -236,7 +236,7 @@ final class Load {
     /** Ten times as many records take some ten times as long: it fails where they take 40 times. */
     private static void timeGrows() throws Exception {
         int[] counts = {100, 1000, 10000};
-        Limits limits = Limits.usual().withRecords(30000);
+        Limits limits = Limits.defaults().withRecords(30000);
         double[][] times = new double[5][counts.length];
         for (int i = 0; i < counts.length; i++) {
             NdefMessage message = short_(counts[i]);

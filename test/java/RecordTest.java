@@ -198,9 +198,9 @@ class RecordTest {
     @Test
     void recordsWithProfiles() throws FormatException {
         byte[] reserved = Cases.unhex("d101025524 61");
-        NdefRecord record = NdefMessage.parse(reserved, Limits.usual(), Profile.STANDARD).getRecords()[0];
+        NdefRecord record = NdefMessage.parse(reserved, Limits.defaults(), Profile.STANDARD).getRecords()[0];
         assertEquals("a", ((UriRecord) record.decode()).uri());
-        assertThrows(FormatException.class, () -> NdefMessage.parse(reserved, Limits.usual(), Profile.STRICT));
+        assertThrows(FormatException.class, () -> NdefMessage.parse(reserved, Limits.defaults(), Profile.STRICT));
         assertEquals(19, assertThrows(FormatException.class, () -> new NdefRecord((short) 1, bytes("U"), null,
                 record.getPayload()).decode()).reason().number());
     }
@@ -249,8 +249,8 @@ class RecordTest {
 
     @Test
     void equalValues() throws FormatException {
-        assertEquals(Limits.usual(), Limits.usual().withRecords(1024));
-        assertNotEquals(Limits.usual(), Limits.usual().withPieces(1));
+        assertEquals(Limits.defaults(), Limits.defaults().withRecords(1024));
+        assertNotEquals(Limits.defaults(), Limits.defaults().withChunks(1));
         assertEquals(Fields.of(hello()), new NdefMessage(NdefRecord.createTextRecord("en", "Hello")).fields());
         assertEquals(TextRecord.of("en", "a").hashCode(), TextRecord.of("en", "a").hashCode());
         assertNotEquals(TextRecord.of("en", "a"), TextRecord.ofUtf16("en", "a"));
@@ -273,14 +273,14 @@ class RecordTest {
         for (int index : new int[] {-1, 7, Integer.MAX_VALUE, Integer.MIN_VALUE}) {
             assertThrows(IndexOutOfBoundsException.class, () -> fields.get(index));
         }
-        assertEquals(Limits.usual().hashCode(), Limits.usual().withRecords(1024).hashCode());
+        assertEquals(Limits.defaults().hashCode(), Limits.defaults().withRecords(1024).hashCode());
         assertEquals(Uri.parse("a:b").hashCode(), Uri.parse("a:b").hashCode());
         SmartPoster poster = SmartPoster.builder("a:b").icon("image/png", bytes("x")).build();
         assertEquals(poster.icons(), SmartPoster.builder("a:c").icon("image/png", bytes("x")).build().icons());
         assertNotEquals(poster.icons(), SmartPoster.builder("a:c").icon("image/png", NONE).build().icons());
         assertNotEquals(poster.icons(), SmartPoster.builder("a:c").icon("image/gif", bytes("x")).build().icons());
         Icon icon = poster.icons().get(0);
-        for (Object value : new Object[] {field, link, poster, icon, Limits.usual(), Uri.parse("a"), select}) {
+        for (Object value : new Object[] {field, link, poster, icon, Limits.defaults(), Uri.parse("a"), select}) {
             assertNotEquals(value, "value");
             assertNotEquals(value, null);
         }
@@ -370,7 +370,7 @@ class RecordTest {
     @Test
     void aRefusedRecordHasASentence() {
         NdefRecord uri = NdefRecord.createUri("tel:1");
-        Limits limits = Limits.usual().withRecords(1).withOpaque(true);
+        Limits limits = Limits.defaults().withRecords(1).withOpaque(true);
         assertEquals(Reason.TOO_MANY_RECORDS.sentence(), assertThrows(RecordException.class,
                 () -> NdefMessage.of(times(2, uri), limits, Profile.STRICT)).sentence());
         Assumptions.assumeTrue(hasSentences());
@@ -382,17 +382,17 @@ class RecordTest {
     void messagesForOtherReaders() throws FormatException {
         NdefRecord uri = NdefRecord.createUri("tel:1");
         NdefRecord[] code = {wellKnown("U", "24"), uri};
-        NdefMessage standard = NdefMessage.of(code, Limits.usual(), Profile.STANDARD);
+        NdefMessage standard = NdefMessage.of(code, Limits.defaults(), Profile.STANDARD);
         byte[] written = standard.toByteArray();
-        assertEquals(standard, NdefMessage.parse(written, Limits.usual(), Profile.STANDARD));
-        assertArrayEquals(written, NdefMessage.parse(written, Limits.usual(), Profile.STANDARD).toByteArray(false, 0));
-        assertEquals(standard, NdefMessage.of(code, Limits.usual().withOpaque(true), Profile.STRICT));
-        assertEquals(1025, NdefMessage.of(times(1025, uri), Limits.usual().withRecords(1025), Profile.STRICT).getRecords().length);
-        assertThrows(RecordException.class, () -> NdefMessage.of(times(2, uri), Limits.usual().withRecords(1), Profile.STRICT));
+        assertEquals(standard, NdefMessage.parse(written, Limits.defaults(), Profile.STANDARD));
+        assertArrayEquals(written, NdefMessage.parse(written, Limits.defaults(), Profile.STANDARD).toByteArray(false, 0));
+        assertEquals(standard, NdefMessage.of(code, Limits.defaults().withOpaque(true), Profile.STRICT));
+        assertEquals(1025, NdefMessage.of(times(1025, uri), Limits.defaults().withRecords(1025), Profile.STRICT).getRecords().length);
+        assertThrows(RecordException.class, () -> NdefMessage.of(times(2, uri), Limits.defaults().withRecords(1), Profile.STRICT));
         refuses(() -> NdefMessage.unchecked());
-        refuses(() -> NdefMessage.of(new NdefRecord[0], Limits.usual(), Profile.STRICT));
-        isNull(() -> NdefMessage.of(null, Limits.usual(), Profile.STRICT), () -> NdefMessage.of(code, null, Profile.STRICT),
-                () -> NdefMessage.of(code, Limits.usual(), null), () -> NdefMessage.unchecked((NdefRecord) null));
+        refuses(() -> NdefMessage.of(new NdefRecord[0], Limits.defaults(), Profile.STRICT));
+        isNull(() -> NdefMessage.of(null, Limits.defaults(), Profile.STRICT), () -> NdefMessage.of(code, null, Profile.STRICT),
+                () -> NdefMessage.of(code, Limits.defaults(), null), () -> NdefMessage.unchecked((NdefRecord) null));
     }
 
     @Test
@@ -405,7 +405,7 @@ class RecordTest {
         assertEquals(0, refusal.record());
         byte[] bytes = NdefMessage.unchecked(record).toByteArray(false, 1);
         assertEquals(refusal.place(), assertThrows(FormatException.class, () -> new NdefMessage(bytes)).place());
-        Limits limits = Limits.usual().withPieces(4097);
+        Limits limits = Limits.defaults().withChunks(4097);
         assertArrayEquals(bytes, NdefMessage.of(new NdefRecord[] {record}, limits, Profile.STRICT).toByteArray(false, 1));
         assertArrayEquals(bytes, NdefMessage.parse(bytes, limits, Profile.STRICT).toByteArray(false, 1));
     }
@@ -418,9 +418,9 @@ class RecordTest {
                 () -> new NdefMessage((NdefRecord[]) null), () -> new NdefMessage(new NdefRecord[] {record, null}),
                 () -> new NdefMessage(record, (NdefRecord) null), () -> new NdefMessage(record, (NdefRecord[]) null),
                 () -> NdefMessage.parse(NONE, null, Profile.STRICT),
-                () -> NdefMessage.parse(NONE, Limits.usual(), null),
-                () -> NdefMessage.parse(null, Limits.usual(), Profile.STRICT),
-                () -> NdefMessage.parsePrefix(null, 0, 0, Limits.usual(), Profile.STRICT));
+                () -> NdefMessage.parse(NONE, Limits.defaults(), null),
+                () -> NdefMessage.parse(null, Limits.defaults(), Profile.STRICT),
+                () -> NdefMessage.parsePrefix(null, 0, 0, Limits.defaults(), Profile.STRICT));
         refuses(() -> new NdefMessage(record).toByteArray(false, -1));
         refuses(() -> new NdefMessage(record).toByteArray(false, 1L << 32));
     }
@@ -460,16 +460,16 @@ class RecordTest {
     @Test
     void remarks() {
         byte[] twice = Cases.unhex("9d00000161" + "1d00000162" + "5d00000161");
-        assertThrows(IndexOutOfBoundsException.class, () -> Sentences.recordRemark(twice, -1));
+        assertThrows(IndexOutOfBoundsException.class, () -> Sentences.recordWarning(twice, -1));
         Assumptions.assumeTrue(hasSentences());
         Optional<String> again = Optional.of("Another record has the same id.");
         Optional<String> none = Optional.empty();
-        assertEquals(List.of(again, none, again, none), List.of(Sentences.recordRemark(twice, 0),
-                Sentences.recordRemark(twice, 1), Sentences.recordRemark(twice, 2), Sentences.recordRemark(twice, 3)));
-        assertEquals(none, Sentences.recordRemark(Arrays.copyOf(twice, 14), 0));
+        assertEquals(List.of(again, none, again, none), List.of(Sentences.recordWarning(twice, 0),
+                Sentences.recordWarning(twice, 1), Sentences.recordWarning(twice, 2), Sentences.recordWarning(twice, 3)));
+        assertEquals(none, Sentences.recordWarning(Arrays.copyOf(twice, 14), 0));
         List<Optional<String>> found = new java.util.ArrayList<>();
         for (Field field : Fields.of(Cases.unhex("c1010000" + "00035504610a"))) {
-            found.add(Sentences.fieldRemark(field));
+            found.add(Sentences.fieldWarning(field));
         }
         assertEquals(List.of(none, none,
                 Optional.of("The payload length 3 fits one octet (SR): the message could be 3 bytes shorter."), none, none,
@@ -494,8 +494,8 @@ class RecordTest {
         assertEquals("The standard profile reads this (`--profile standard`, in C NDEF_STANDARD).",
                 Sentences.hint(reserved).get());
         for (Optional<String> none : List.of(Sentences.why(hello()), Sentences.hint(hello()), Sentences.hint(late),
-                Sentences.why(reserved, Limits.usual(), Profile.STANDARD),
-                Sentences.hint(reserved, Limits.usual(), Profile.STANDARD))) {
+                Sentences.why(reserved, Limits.defaults(), Profile.STANDARD),
+                Sentences.hint(reserved, Limits.defaults(), Profile.STANDARD))) {
             assertEquals(Optional.empty(), none);
         }
     }
@@ -529,10 +529,10 @@ class RecordTest {
         assertEquals("read `Arrays.copyOfRange(bytes, 1, 4)`.", after.text().substring(after.text().indexOf("read")));
         byte[] reserved = Cases.unhex("d7000161");
         assertEquals("The standard profile reads this: give `Profile.STANDARD`.", Sentences.findHint(reserved).get().text());
-        assertEquals(Optional.empty(), Sentences.findHint(reserved, Limits.usual(), Profile.STANDARD));
-        assertEquals(Sentences.findHint(tag), Sentences.findHint(tag, Limits.usual().withOpaque(true), Profile.STRICT));
+        assertEquals(Optional.empty(), Sentences.findHint(reserved, Limits.defaults(), Profile.STANDARD));
+        assertEquals(Sentences.findHint(tag), Sentences.findHint(tag, Limits.defaults().withOpaque(true), Profile.STRICT));
         isNull(() -> Sentences.findHint(null), () -> Sentences.findHint(tag, null, Profile.STRICT),
-                () -> Sentences.findHint(tag, Limits.usual(), null));
+                () -> Sentences.findHint(tag, Limits.defaults(), null));
     }
 
     /** The message of an exception says what is wrong, and a text of a record not all of its bytes. */
@@ -558,25 +558,25 @@ class RecordTest {
     void sentencesWithinLimits() {
         Assumptions.assumeTrue(hasSentences());
         byte[] late = Cases.unhex("d10106543f6162636465");
-        assertEquals(Sentences.why(late), Sentences.why(late, Limits.usual().withOpaque(true), Profile.STRICT));
+        assertEquals(Sentences.why(late), Sentences.why(late, Limits.defaults().withOpaque(true), Profile.STRICT));
         assertEquals(Reason.PAYLOAD_TOO_LARGE.sentence(),
-                Sentences.why(hello(), Limits.usual().withPayload(7), Profile.STRICT).get());
+                Sentences.why(hello(), Limits.defaults().withPayload(7), Profile.STRICT).get());
         isNull(() -> Sentences.why(null), () -> Sentences.hint(null), () -> Sentences.why(late, null, Profile.STRICT),
-                () -> Sentences.hint(late, Limits.usual(), null));
+                () -> Sentences.hint(late, Limits.defaults(), null));
     }
 
     @Test
     void partsOfArrays() throws FormatException {
         byte[] twice = Cases.unhex("00d101085402656e48656c6c6fd00000");
-        Prefix prefix = NdefMessage.parsePrefix(twice, 1, 15, Limits.usual(), Profile.STRICT);
+        Prefix prefix = NdefMessage.parsePrefix(twice, 1, 15, Limits.defaults(), Profile.STRICT);
         assertEquals(12, prefix.length());
         assertArrayEquals(hello(), prefix.message().toByteArray());
-        prefix = NdefMessage.parsePrefix(twice, 13, 3, Limits.usual(), Profile.STRICT);
+        prefix = NdefMessage.parsePrefix(twice, 13, 3, Limits.defaults(), Profile.STRICT);
         assertEquals(0, prefix.message().getRecords()[0].getTnf());
         for (int[] wrong : new int[][] {{-1, 3}, {0, -1}, {0, 17}, {16, 1}, {17, 0}, {1, Integer.MAX_VALUE},
             {Integer.MAX_VALUE, 1}, {Integer.MIN_VALUE, 0}}) {
             assertThrows(IndexOutOfBoundsException.class,
-                    () -> NdefMessage.parsePrefix(twice, wrong[0], wrong[1], Limits.usual(), Profile.STRICT));
+                    () -> NdefMessage.parsePrefix(twice, wrong[0], wrong[1], Limits.defaults(), Profile.STRICT));
         }
     }
 
@@ -584,7 +584,7 @@ class RecordTest {
     @Test
     void chunksAndManyRecords() throws FormatException {
         byte[] chunked = Cases.unhex("ffff" + "b20302612f620102" + "56000103" + "ff");
-        NdefRecord record = NdefMessage.parsePrefix(chunked, 2, chunked.length - 2, Limits.usual(), Profile.STRICT).message().getRecords()[0];
+        NdefRecord record = NdefMessage.parsePrefix(chunked, 2, chunked.length - 2, Limits.defaults(), Profile.STRICT).message().getRecords()[0];
         assertArrayEquals(new byte[] {1, 2, 3}, record.getPayload());
         for (int count : new int[] {23, 24, 25, 100, 170, 171, 1024}) {
             NdefRecord[] records = times(count, new NdefRecord((short) 0, null, null, null));
@@ -598,14 +598,14 @@ class RecordTest {
     @Test
     void limitsOutOfRange() throws FormatException {
         for (long wrong : new long[] {0, -1, 1L << 32, Long.MIN_VALUE}) {
-            refuses(() -> Limits.usual().withPayload(wrong));
+            refuses(() -> Limits.defaults().withPayload(wrong));
         }
         for (int wrong : new int[] {0, -1, 65536, Integer.MIN_VALUE}) {
-            refuses(() -> Limits.usual().withRecords(wrong));
-            refuses(() -> Limits.usual().withPieces(wrong));
+            refuses(() -> Limits.defaults().withRecords(wrong));
+            refuses(() -> Limits.defaults().withChunks(wrong));
         }
-        Limits most = Limits.usual().withPayload(4294967295L).withRecords(65535).withPieces(65535).withOpaque(true);
-        assertEquals("Limits payload=4294967295 records=65535 pieces=65535 opaque", most.toString());
+        Limits most = Limits.defaults().withPayload(4294967295L).withRecords(65535).withChunks(65535).withOpaque(true);
+        assertEquals("Limits payload=4294967295 records=65535 chunks=65535 opaque", most.toString());
         assertEquals(1, NdefMessage.parse(Cases.unhex("d10101 54 ff"), most, Profile.STRICT).getRecords().length);
     }
 
@@ -624,7 +624,7 @@ class RecordTest {
         assertEquals(false, mixed.feed(Cases.unhex("d101")));
         assertEquals(true, mixed.feed(rest));
         assertEquals("12 10", mixed.length() + " " + rest.position());
-        Checker refused = new Checker(Limits.usual().withPayload(7), Profile.STRICT);
+        Checker refused = new Checker(Limits.defaults().withPayload(7), Profile.STRICT);
         for (int i = 0; i < 2; i++) {
             assertEquals(2, assertThrows(FormatException.class, () -> refused.feed(hello())).place());
         }

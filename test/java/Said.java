@@ -16,7 +16,7 @@ final class Said {
     /** The hint by numbers; nothing, where the library is that of release 0.3.0. */
     private static String found(byte[] bytes, Profile profile) {
         try {
-            return " | " + Sentences.findHint(bytes, Limits.usual(), profile)
+            return " | " + Sentences.findHint(bytes, Limits.defaults(), profile)
                     .map(found -> found.kind().number() + " " + found.place() + " " + found.length()).orElse("-");
         } catch (UnsupportedOperationException old) {
             return "";
@@ -30,8 +30,8 @@ final class Said {
             for (String hex = messages.readLine(); hex != null; hex = messages.readLine()) {
                 byte[] bytes = Cases.unhex(hex);
                 for (Profile profile : Profile.values()) {
-                    String why = Sentences.why(bytes, Limits.usual(), profile).orElse("-");
-                    String hint = Sentences.hint(bytes, Limits.usual(), profile).orElse("-");
+                    String why = Sentences.why(bytes, Limits.defaults(), profile).orElse("-");
+                    String hint = Sentences.hint(bytes, Limits.defaults(), profile).orElse("-");
                     out.println(profile.ordinal() + " | " + why + " | " + hint + found(bytes, profile));
                 }
             }

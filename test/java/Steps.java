@@ -90,8 +90,8 @@ final class Steps {
     private static InputStream some(byte[] bytes) {
         return new FilterInputStream(new ByteArrayInputStream(bytes)) {
             @Override
-            public int read(byte[] room, int at, int size) throws IOException {
-                return super.read(room, at, size == 0 ? 0 : 1 + DICE.nextInt(size));
+            public int read(byte[] buffer, int at, int size) throws IOException {
+                return super.read(buffer, at, size == 0 ? 0 : 1 + DICE.nextInt(size));
             }
         };
     }
@@ -99,19 +99,19 @@ final class Steps {
     /** All bytes of a stream, of which some are asked for at once; nothing around them in the array is written. */
     private static byte[] all(InputStream stream, int most) throws IOException {
         ByteArrayOutputStream to = new ByteArrayOutputStream();
-        byte[] room = new byte[most + 2];
+        byte[] buffer = new byte[most + 2];
         for (;;) {
-            Arrays.fill(room, (byte) 0xa5);
+            Arrays.fill(buffer, (byte) 0xa5);
             int size = 1 + DICE.nextInt(most);
-            int count = stream.read(room, 1, size);
+            int count = stream.read(buffer, 1, size);
             if (count < 0) {
-                Cases.same("the end again", -1, stream.read(room, 1, size));
+                Cases.same("the end again", -1, stream.read(buffer, 1, size));
                 return to.toByteArray();
             }
-            if (count == 0 || count > size || room[0] != (byte) 0xa5 || room[count + 1] != (byte) 0xa5) {
+            if (count == 0 || count > size || buffer[0] != (byte) 0xa5 || buffer[count + 1] != (byte) 0xa5) {
                 throw new AssertionError(count + " of " + size + " bytes");
             }
-            to.write(room, 1, count);
+            to.write(buffer, 1, count);
         }
     }
 
@@ -192,10 +192,10 @@ final class Steps {
     private static void tooFew() throws IOException {
         failsAfter(joined(HEAD, "abc"), EOFException.class, "the payload has 3 bytes, and 5 were said", of(ascii("abc"), 5));
         failsAfter(HEAD, EOFException.class, "the payload has 0 bytes, and 5 were said", of(NONE, 5));
-        byte[] room = new byte[9];
+        byte[] buffer = new byte[9];
         RecordInputStream stream = of(ascii("a"), 5);
-        Cases.same("no byte is asked for", 0, stream.read(room, 9, 0));
-        fails(IndexOutOfBoundsException.class, () -> stream.read(room, 5, 5));
+        Cases.same("no byte is asked for", 0, stream.read(buffer, 9, 0));
+        fails(IndexOutOfBoundsException.class, () -> stream.read(buffer, 5, 5));
         fails(EOFException.class, stream::readAllBytes);
     }
 
@@ -235,17 +235,17 @@ final class Steps {
             }
 
             @Override
-            public int read(byte[] room, int at, int size) {
+            public int read(byte[] buffer, int at, int size) {
                 asked[0]++;
-                room[at] = 'a';
+                buffer[at] = 'a';
                 return 1;
             }
         };
         NdefRecord head = new NdefRecord(NdefRecord.TNF_UNKNOWN, null, null, null);
         try (RecordInputStream stream = new RecordInputStream(head, payload, 5, Position.ONLY)) {
-            byte[] room = new byte[9];
-            Cases.same("the head", "3 0", stream.read(room) + " " + asked[0]);
-            Cases.same("a byte", "1 1", stream.read(room) + " " + asked[0]);
+            byte[] buffer = new byte[9];
+            Cases.same("the head", "3 0", stream.read(buffer) + " " + asked[0]);
+            Cases.same("a byte", "1 1", stream.read(buffer) + " " + asked[0]);
         }
     }
 

@@ -60,14 +60,14 @@ final class Suite {
     }
 
     private static Limits limits(String column, boolean isOpaque) {
-        Limits limits = Limits.usual().withOpaque(isOpaque);
+        Limits limits = Limits.defaults().withOpaque(isOpaque);
         String[] words = column.split(" ");
         for (int i = 0; i + 1 < words.length; i += 2) {
             long number = Long.parseLong(words[i + 1]);
             switch (words[i]) {
                 case "payload": limits = limits.withPayload(number); break;
                 case "records": limits = limits.withRecords((int) number); break;
-                case "pieces": limits = limits.withPieces((int) number); break;
+                case "pieces": limits = limits.withChunks((int) number); break;
                 default: throw new AssertionError(column);
             }
         }
@@ -89,7 +89,7 @@ final class Suite {
         Cases.same("parsePrefix within an array", expected, prefix(shifted, 3, limits, profile, line[RECORDS]));
         String whole = isAccepted && place != bytes.length ? "refused " + place + " 0" : expected;
         Cases.same("parse", whole, whole(bytes, limits, profile));
-        if (limits.equals(Limits.usual()) && profile == Profile.STRICT) {
+        if (limits.equals(Limits.defaults()) && profile == Profile.STRICT) {
             String read = read(() -> new NdefMessage(bytes).getRecords().length > 0 ? place : -1);
             Cases.same("new NdefMessage", whole, read);
         }
@@ -186,7 +186,7 @@ final class Suite {
     // ---- links.txt, encoding.txt
 
     private static void isLinked(String[] line, Profile profile) throws Exception {
-        NdefMessage message = NdefMessage.parse(Cases.unhex(line[5]), Limits.usual(), profile);
+        NdefMessage message = NdefMessage.parse(Cases.unhex(line[5]), Limits.defaults(), profile);
         List<String> found = new ArrayList<>();
         for (Link link : message.links()) {
             int record = link.record().map(it -> 1 + indexOf(message.getRecords(), it)).orElse(0);

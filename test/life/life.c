@@ -52,7 +52,7 @@ static struct reader *new_reader(void) {
 /* The hash of the answers about one message. */
 static uint64_t answers(struct reader *reader, size_t which) {
     ndef_limits limits;
-    ndef_usual_limits(&limits);
+    ndef_default_limits(&limits);
     reader->hash = 0;
     read_message(reader, messages[which], lengths[which], &limits);
     read_fields(reader, messages[which], lengths[which], &limits);
@@ -114,9 +114,9 @@ static void threads(unsigned long long wanted) {
 /* A record with type and id of 255 bytes, and a payload in pieces whose lengths have four bytes each (NDEF 1.0, 3.2). */
 static ndef_size put_record(uint8_t *to, const ndef_limits *limits, int first, int last) {
     uint8_t *at = to;
-    for (uint32_t piece = 0; piece < limits->pieces; piece++) {
-        const uint32_t length = piece == 0 ? limits->payload - limits->pieces + 1 : 1;
-        const int is_first = piece == 0, is_end = piece == limits->pieces - 1;
+    for (uint32_t piece = 0; piece < limits->chunks; piece++) {
+        const uint32_t length = piece == 0 ? limits->payload - limits->chunks + 1 : 1;
+        const int is_first = piece == 0, is_end = piece == limits->chunks - 1;
         *at++ = (uint8_t)((first && is_first ? 0x80 : 0) | (last && is_end ? 0x40 : 0) | (is_end ? 0 : 0x20) | (is_first ? 0x08 | 4 : 6));
         *at++ = is_first ? 255 : 0;
         for (int shift = 24; shift >= 0; shift -= 8) *at++ = (uint8_t)(length >> shift);
@@ -130,7 +130,7 @@ static ndef_size put_record(uint8_t *to, const ndef_limits *limits, int first, i
 static void bytes(void) {
     static uint8_t message[1 << 16];
     const ndef_limits limits = { 1000, 7, 9, 0 };
-    const ndef_size most = limits.records * (6 * (ndef_size)limits.pieces + 511 + limits.payload);
+    const ndef_size most = limits.records * (6 * (ndef_size)limits.chunks + 511 + limits.payload);
     ndef_checker checker;
     ndef_checked checked;
     ndef_size length = 0;

@@ -1,6 +1,6 @@
 """Every attribute of decoded records, and what is written of them, beside what the calls of the library answer, whose structs are
 read here anew by ndef.h: over the cases of the suite, the inputs of the fuzzer and NDEF_RANDOM random messages, 100000 where it isn't
-set. Some are cut, changed or in pieces; they are read with and without a look into payloads, within small limits, of octets and of
+set. Some are cut, changed or in chunks; they are read with and without a look into payloads, within small limits, of octets and of
 streams of all kinds, and their fields by both profiles."""
 import collections
 import ctypes
@@ -43,8 +43,8 @@ STRUCTS = {library.Limits: 'ndef_limits', library.Checked: 'ndef_checked', libra
 # The calls that read payloads, but URIs, and their flags.
 READS = {b'T': ('ndef_text',), b'Sp': ('ndef_poster', 0), b'Hr': ('ndef_request', 0), b'Hs': ('ndef_select', 0), b'Hc': ('ndef_carrier',)}
 
-# A record as the calls answer it, with where its payload begins and in how many pieces it is.
-Told = collections.namedtuple('Told', 'tnf kind name payload at pieces', defaults=(0, 1))
+# A record as the calls answer it, with where its payload begins and in how many chunks it is.
+Told = collections.namedtuple('Told', 'tnf kind name payload at chunks', defaults=(0, 1))
 
 
 def spelled(told):
@@ -71,13 +71,13 @@ def read(name, form, payload, *flags):
 
 
 def roomed(name, *words, behind=()):
-    """The octets that a call writes to a room."""
+    """The octets that a call writes to a buffer."""
     size, count = 1 << 10, ctypes.c_size_t()
     while True:
-        room = ctypes.create_string_buffer(size)
-        status = getattr(C, name)(*words, room, ctypes.c_size_t(size), ctypes.byref(count), *behind)
+        buffer = ctypes.create_string_buffer(size)
+        status = getattr(C, name)(*words, buffer, ctypes.c_size_t(size), ctypes.byref(count), *behind)
         if status != 2:
-            return room.raw[:count.value] if status == 0 else None
+            return buffer.raw[:count.value] if status == 0 else None
         size = count.value
 
 
@@ -121,14 +121,14 @@ def refusal_of(told):
 
 def refused(octets, told, known, most):
     """Where the octets are refused and the reason, or where the message ends and 0. Classes that the caller names look into the payloads
-    of the records before that place. The octets of a record in pieces don't follow one another, so that another check
+    of the records before that place. The octets of a record in chunks don't follow one another, so that another check
     finds the place in it: whether that is so."""
     place, reason = checked(octets, 0 if known is None else 2, most)
     if known:
         for part, end in told:
             found = refusal_of(part) if part.tnf == 1 and part.kind in WRITTEN else None
             if found and end <= place:
-                return part.at + found[0], found[1], part.pieces > 1
+                return part.at + found[0], found[1], part.chunks > 1
     return place, reason, False
 
 
@@ -228,7 +228,7 @@ def said(octets, flags=0, most=USUAL):
     """What was wanted of octets that are refused, and the hint, as the calls write them; what the library of 0.2.0 says, which has neither."""
     if not library.has_sentences:
         return MEANT[checked(octets, flags, most)[1]], None
-    why, hint = (roomed(name, *sized(octets), limits_of(flags, most)) for name in ('ndef_why', 'ndef_hint'))
+    why, hint = (roomed(name, *sized(octets), limits_of(flags, most)) for name in ('ndef_refusal_message', 'ndef_hint'))
     return why.decode('ascii'), hint and hint.decode('ascii')
 
 
@@ -400,15 +400,15 @@ class Calls(unittest.TestCase):
             self.assertEqual((error.sentence, error.hint, error.found_hint), (sentence, hint, found))
 
     def remarks(self, octets, listed):
-        """The remarks on fields and on records are those that the calls write."""
-        if not library.has_remarks:
+        """The warnings on fields and on records are those that the calls write."""
+        if not library.has_warnings:
             return
         for field in listed:
-            written = roomed('ndef_field_remark', ctypes.c_uint32(NUMBERS[field.name]), *sized(field.octets))
-            self.assertEqual(ndef.field_remark(field.name, field.octets), written and written.decode('ascii'))
+            written = roomed('ndef_field_warning', ctypes.c_uint32(NUMBERS[field.name]), *sized(field.octets))
+            self.assertEqual(ndef.field_warning(field.name, field.octets), written and written.decode('ascii'))
         for index in range(4):
-            written = roomed('ndef_record_remark', *sized(octets), ctypes.c_size_t(index))
-            self.assertEqual(ndef.record_remark(octets, index), written and written.decode('ascii'))
+            written = roomed('ndef_record_warning', *sized(octets), ctypes.c_size_t(index))
+            self.assertEqual(ndef.record_warning(octets, index), written and written.decode('ascii'))
 
     def given(self, octets, way):
         """The octets, or one of six other ways in which they are given."""

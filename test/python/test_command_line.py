@@ -93,7 +93,7 @@ class CommandLine(unittest.TestCase):
     LONG = bytes.fromhex('c1010000 000355 04610a')
     IDS = bytes.fromhex('9d00000161 5d00000161')
 
-    @unittest.skipUnless(library.has_remarks, 'the library is that of release 0.2.0')
+    @unittest.skipUnless(library.has_warnings, 'the library is that of release 0.2.0')
     def test_remarks_of_explain(self):
         """They stand where docs/EXPLAIN.md says: after the field, and after all fields of the message."""
         size = 'The payload length 3 fits one octet (SR): the message could be 3 bytes shorter.'
@@ -111,7 +111,7 @@ class CommandLine(unittest.TestCase):
         self.assertEqual([part.get('remark') for part in first['fields']], [None, None, size, None, None, 'The URI has a control character.'])
         self.assertEqual(('remarks' in first, second['remarks']), (False, [{'record': number, 'sentence': again} for number in (1, 2)]))
 
-    @unittest.skipUnless(library.has_remarks, 'the library is that of release 0.2.0')
+    @unittest.skipUnless(library.has_warnings, 'the library is that of release 0.2.0')
     def test_remarks_of_many_records(self):
         """Records are compared in messages of at most 64."""
         for count, told in ((64, 64), (65, 0)):
@@ -121,7 +121,7 @@ class CommandLine(unittest.TestCase):
 
     def test_nothing_is_strange(self):
         """Remarks are on what is accepted alone, and there are none with the library of release 0.2.0."""
-        for given in (HELLO, self.LONG[:9], *([] if library.has_remarks else [self.LONG, self.IDS])):
+        for given in (HELLO, self.LONG[:9], *([] if library.has_warnings else [self.LONG, self.IDS])):
             for words in (['explain'], ['explain', '--json']):
                 self.assertNotIn('remark', '\n'.join(self.run_with(*words, given=given)[1]))
 

@@ -1,4 +1,4 @@
-"""How the time of each walk grows with the records, references or pieces of a stranger: ten times as many take some ten times
+"""How the time of each walk grows with the records, references or chunks of a stranger: ten times as many take some ten times
 as long. With GROWTH set the microseconds are printed."""
 import io
 import os
@@ -37,8 +37,8 @@ def texts(count):
     return octets(*(ndef.TextRecord('Hello') for _ in range(count)))
 
 
-def pieces(count):
-    """A record in this number of pieces of two octets."""
+def chunks(count):
+    """A record in this number of chunks of two octets."""
     return b'\xb2\x03\x02a/bxx' + (count - 2) * b'\x36\x00\x02xx' + b'\x56\x00\x02xx'
 
 
@@ -87,9 +87,9 @@ class Growth(unittest.TestCase):
 
     def test_pieces(self):
         most = (40, 400, 4000)
-        self.row('pieces of a record', most, self.decoded(pieces))
-        self.row('pieces of a record of a stream', most, self.decoded(pieces, io.BytesIO))
-        self.row('pieces of a record of a stream, octet by octet', most, self.decoded(pieces, Dripping))
+        self.row('chunks of a record', most, self.decoded(chunks))
+        self.row('chunks of a record of a stream', most, self.decoded(chunks, io.BytesIO))
+        self.row('chunks of a record of a stream, octet by octet', most, self.decoded(chunks, Dripping))
 
     def test_payloads(self):
         most = (10, 100, 1000)

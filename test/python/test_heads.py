@@ -1,4 +1,4 @@
-"""The exact octets of records with 255 and 256 octets of payload, whole and in pieces: the short form goes up to 255
+"""The exact octets of records with 255 and 256 octets of payload, whole and in chunks: the short form goes up to 255
 (NDEF 1.0, record layout and chunked payloads)."""
 import unittest
 
@@ -31,8 +31,8 @@ class Heads(unittest.TestCase):
         self.assertEqual(data(b'\xc5\x00\x00\x00\x00\xff' + PAYLOAD[:255]), [PAYLOAD[:255]])
 
     def test_short_pieces(self):
-        pieces = b'\xb5\x00\xff' + PAYLOAD[:255] + b'\x36\x00\xff' + PAYLOAD[255:510] + b'\x56\x00\x5a' + PAYLOAD[510:]
-        self.assertEqual(data(pieces), [PAYLOAD])
+        chunks = b'\xb5\x00\xff' + PAYLOAD[:255] + b'\x36\x00\xff' + PAYLOAD[255:510] + b'\x56\x00\x5a' + PAYLOAD[510:]
+        self.assertEqual(data(chunks), [PAYLOAD])
 
     def test_long_pieces(self):
         head, later = b'\xa5\x00\x00\x00\x01\x00', b'\x26\x00\x00\x00\x01\x00'

@@ -203,12 +203,12 @@ class Records(unittest.TestCase):
                 self.assertEqual((caught.exception.reason, caught.exception.place), ('UriCode', len(before) + 4))
 
     def test_places_in_pieces_after_other_records(self):
-        """A class that is given refuses a text in pieces where the library does, in the first record and in a later one."""
+        """A class that is given refuses a text in chunks where the library does, in the first record and in a later one."""
         for before in (b'', b'\x90\0\0', b'\x91\1\1xa\x10\0\0'):
-            pieces = bytes([0x31 if before else 0xb1]) + b'\1\3T\2en' + b'\x56\0\2a\xff'
+            chunks = bytes([0x31 if before else 0xb1]) + b'\1\3T\2en' + b'\x56\0\2a\xff'
             for words in ({}, {'known_types': {'urn:nfc:wkt:T': ndef.TextRecord}}):
                 with self.assertRaises(ndef.DecodeError) as caught:
-                    decoded(before + pieces, **words)
+                    decoded(before + chunks, **words)
                 self.assertEqual((caught.exception.place, caught.exception.reason), (len(before) + 11, 'Utf8'))
 
     def test_every_octet_of_names_and_types(self):
@@ -295,7 +295,7 @@ class Records(unittest.TestCase):
 
 
 class Texts(unittest.TestCase):
-    """Each refusal of a value names what it may be, as python/README.md and the documentation of the classes have it, and the value."""
+    """Each refusal of a value names what it may be, as bindings/python/README.md and the documentation of the classes have it, and the value."""
 
     def test_of_errors(self):
         long, select, poster = 256 * 'x', ndef.HandoverSelectRecord, ndef.SmartposterRecord('a')
@@ -395,7 +395,7 @@ class Large(unittest.TestCase):
 
 
 class Rooms(unittest.TestCase):
-    """Time alone: no call is made twice for want of room, and the usual rooms are used again."""
+    """Time alone: no call is made twice for want of buffer, and the usual buffers are used again."""
 
     def calls_of(self, name, work):
         """How often a call of the library is made."""
@@ -407,14 +407,14 @@ class Rooms(unittest.TestCase):
     def test_one_call_for_each_payload(self):
         size, long = 9000, 9000 * 'a'
         carrier, select = AlternativeCarrierRecord('active', 255 * 'x', 255 * [255 * 'y']), ndef.HandoverSelectRecord('1.2', (9, bytes(size)))
-        record, pieces = ndef.Record('unknown', '', bytes(size)), b'\xa5\0\0\0\x10\0' + bytes(4096) + b'\x46\0\0\0\x10\0\0' + bytes(4096)
+        record, chunks = ndef.Record('unknown', '', bytes(size)), b'\xa5\0\0\0\x10\0' + bytes(4096) + b'\x46\0\0\0\x10\0\0' + bytes(4096)
         text, wide = ndef.TextRecord(long), ndef.TextRecord(long, encoding='UTF-16')
         for name, work in (('write_text', lambda: text.data), ('write_text', lambda: wide.data),
                            ('write_uri', lambda: ndef.UriRecord(long).data), ('uri', lambda: ndef.UriRecord._decode_payload(b'\0' + long.encode(), 'strict')),
                            ('text_in_utf8', lambda: decoded(octets(ndef.TextRecord(size * '\u4e00', encoding='UTF-16')))[0].text),
                            ('write_carrier', lambda: ndef.HandoverCarrierRecord('a/b', bytes(size)).data), ('write_alternative', lambda: carrier.data),
                            ('write_error', lambda: ErrorRecord(9, bytes(size))), ('write_handover', lambda: select.data),
-                           ('write_record', lambda: octets(record)), ('payload', lambda: decoded(pieces))):
+                           ('write_record', lambda: octets(record)), ('payload', lambda: decoded(chunks))):
             with self.subTest(name):
                 self.assertEqual(self.calls_of(name, work), 1)
 
@@ -456,7 +456,7 @@ class Rooms(unittest.TestCase):
     def test_rooms_are_used_again(self):
         text = ndef.TextRecord('a')
         self.assertEqual(text.data, b'\2ena')
-        with mock.patch.object(library, '_Room', side_effect=AssertionError):
+        with mock.patch.object(library, '_Buffer', side_effect=AssertionError):
             self.assertEqual([text.data for _ in range(100)], 100 * [b'\2ena'])
 
 
@@ -653,7 +653,7 @@ class Streams(unittest.TestCase):
         self.assertLessEqual(len(library.desks), 16)
 
     def test_threads_share_no_room(self):
-        """Payloads in pieces are joined in rooms that threads take in turn."""
+        """Payloads in chunks are joined in buffers that threads take in turn."""
         def work(number, wrong):
             letter = b'%d' % number
             given = b'\xb5\0\1' + letter + b'\x36\0\1' + letter + b'\x56\0' + bytes([200]) + 200 * letter

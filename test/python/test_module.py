@@ -464,11 +464,11 @@ class Fields(unittest.TestCase):
 
 class Readme(unittest.TestCase):
     def test_examples(self):
-        page = (TOP / 'python/README.md').read_text()
+        page = (TOP / 'bindings/python/README.md').read_text()
         for title, is_there in (('The layout of a payload', library.has_layouts), ('Octets in parts', library.has_writers)):
             if not is_there:
                 page = re.sub('^### %s$.*?(?=^## )' % title, '', page, flags=re.M | re.S)
-        failed, tried = doctest.DocTestRunner().run(doctest.DocTestParser().get_doctest(page, {}, 'README.md', 'python/README.md', 0))
+        failed, tried = doctest.DocTestRunner().run(doctest.DocTestParser().get_doctest(page, {}, 'README.md', 'bindings/python/README.md', 0))
         self.assertEqual(failed, 0)
         self.assertGreater(tried, 10)
 

@@ -48,7 +48,7 @@ class Package(unittest.TestCase):
     def test_the_wheel(self):
         with tempfile.TemporaryDirectory() as folder:
             pip = [MAKER, '-m', 'pip', '--disable-pip-version-check']
-            made = subprocess.run([*pip, 'wheel', str(TOP / 'python'), '--no-deps', '--no-index', '-w', folder],
+            made = subprocess.run([*pip, 'wheel', str(TOP), '--no-deps', '--no-index', '-w', folder],
                                   env={**os.environ, 'NDEF_LIB_DIR': str(TOP / 'out/lib')}, stdout=subprocess.PIPE, stderr=subprocess.STDOUT)
             self.assertEqual(made.returncode, 0, made.stdout.decode())
             (wheel,) = pathlib.Path(folder).glob('simbegyor_ndef-%s-py3-none-*.whl' % ndef.__version__)
@@ -88,7 +88,7 @@ class Package(unittest.TestCase):
                 self.assertEqual(_platform.asked_for(str(path)), asked or str(path))
 
     def test_the_backend_on_other_platforms(self):
-        made = runpy.run_path(str(TOP / 'python/backend.py'))
+        made = runpy.run_path(str(TOP / 'bindings/python/backend.py'))
         self.assertEqual(made['LIBRARY'], _platform.library_name())
         for platform, wanted in (('linux', ('-fPIC', '-shared', '--whole-archive', 'x.a')), ('darwin', ('-fPIC', '-shared', '-force_load,x.a')),
                                  ('win32', ('-shared', '--whole-archive', 'x.a'))):

@@ -1,4 +1,4 @@
-"""Tests of python/README.md: its programs are run as they are printed, and its commands print what it shows."""
+"""Tests of bindings/python/README.md: its programs are run as they are printed, and its commands print what it shows."""
 import os
 import pathlib
 import re
@@ -10,7 +10,7 @@ import unittest
 import counted
 from cases import TOP
 
-PAGE = (TOP / 'python/README.md').read_text()
+PAGE = (TOP / 'bindings/python/README.md').read_text()
 
 
 def blocks(language):

@@ -143,45 +143,48 @@ RECORDS = {
 }
 
 
-@unittest.skipUnless(library.has_remarks, 'the library is that of release 0.2.0')
+@unittest.skipUnless(library.has_warnings, 'the library is that of release 0.2.0')
 class Remarks(unittest.TestCase):
     def test_fields(self):
         for (name, octets), sentence in FIELDS.items():
             with self.subTest(name, octets=octets):
                 for given in (octets, bytearray(octets), memoryview(octets)):
-                    self.assertEqual(ndef.field_remark(name, given), sentence)
+                    self.assertEqual(ndef.field_warning(name, given), sentence)
 
     def test_records(self):
         for octets, sentences_of_records in RECORDS.items():
             with self.subTest(octets.hex()):
                 for given in (octets, bytearray(octets + b'more'), memoryview(octets)):
-                    self.assertEqual([ndef.record_remark(given, index) for index in range(len(sentences_of_records))], sentences_of_records)
+                    self.assertEqual([ndef.record_warning(given, index) for index in range(len(sentences_of_records))], sentences_of_records)
                 for index in (len(sentences_of_records), 64, 1 << 32, 1 << 64, 1 << 99):
-                    self.assertIsNone(ndef.record_remark(octets, index))
-                self.assertIsNone(ndef.record_remark(octets[:-1], 0))
-        self.assertIsNone(ndef.record_remark(b'', 0))
+                    self.assertIsNone(ndef.record_warning(octets, index))
+                self.assertIsNone(ndef.record_warning(octets[:-1], 0))
+        self.assertIsNone(ndef.record_warning(b'', 0))
 
     def test_many_records(self):
         """A message of more than 64 records isn't looked through."""
         for count, sentence in ((64, AGAIN), (65, None)):
             octets = b'\x9d\0\0\1a' + (count - 2) * b'\x1d\0\0\1a' + b'\x5d\0\0\1a'
-            self.assertEqual([ndef.record_remark(octets, 0), ndef.record_remark(octets, count - 1)], [sentence, sentence])
+            self.assertEqual([ndef.record_warning(octets, 0), ndef.record_warning(octets, count - 1)], [sentence, sentence])
 
     def test_bad_arguments(self):
-        self.assertRaisesRegex(ValueError, "no field has the name 'uri'", ndef.field_remark, 'uri', b'')
-        self.assertRaisesRegex(ValueError, 'no field has the name None', ndef.field_remark, None, b'')
-        self.assertRaisesRegex(TypeError, 'octets are needed, not str', ndef.field_remark, 'URI', 'a')
-        self.assertRaisesRegex(TypeError, 'octets are needed, not str', ndef.record_remark, 'd0', 0)
-        self.assertRaisesRegex(ValueError, 'an index is 0 or more, not -1', ndef.record_remark, HELLO, -1)
-        self.assertRaises(TypeError, ndef.record_remark, HELLO, 0.5)
+        self.assertRaisesRegex(ValueError, "no field has the name 'uri'", ndef.field_warning, 'uri', b'')
+        self.assertRaisesRegex(ValueError, 'no field has the name None', ndef.field_warning, None, b'')
+        self.assertRaisesRegex(TypeError, 'octets are needed, not str', ndef.field_warning, 'URI', 'a')
+        self.assertRaisesRegex(TypeError, 'octets are needed, not str', ndef.record_warning, 'd0', 0)
+        self.assertRaisesRegex(ValueError, 'an index is 0 or more, not -1', ndef.record_warning, HELLO, -1)
+        self.assertRaises(TypeError, ndef.record_warning, HELLO, 0.5)
+
+    def test_the_names_of_release_0_3_0(self):
+        self.assertEqual((ndef.field_remark, ndef.record_remark), (ndef.field_warning, ndef.record_warning))
 
 
-@unittest.skipIf(library.has_remarks, 'the library has remarks')
+@unittest.skipIf(library.has_warnings, 'the library has warnings')
 class WithoutRemarks(unittest.TestCase):
     def test_the_library_of_release_0_2_0(self):
-        self.assertRaises(AttributeError, ndef.field_remark, 'URI', b'a')
-        self.assertRaises(AttributeError, ndef.record_remark, HELLO, 0)
-        self.assertRaises(AttributeError, ndef.record_remark, HELLO, 64)
+        self.assertRaises(AttributeError, ndef.field_warning, 'URI', b'a')
+        self.assertRaises(AttributeError, ndef.record_warning, HELLO, 0)
+        self.assertRaises(AttributeError, ndef.record_warning, HELLO, 64)
 
 
 if __name__ == '__main__':

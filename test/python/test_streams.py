@@ -15,8 +15,8 @@ def octets(*records):
     return b''.join(ndef.message_encoder(records))
 
 
-def pieces(count):
-    """A record in this number of pieces of two octets, and an empty record after it (NDEF 1.0, CF)."""
+def chunks(count):
+    """A record in this number of chunks of two octets, and an empty record after it (NDEF 1.0, CF)."""
     return b'\xb2\x03\x02a/bxx' + (count - 2) * b'\x36\x00\x02xx' + b'\x16\x00\x02xx' + b'\x50\0\0'
 
 
@@ -47,7 +47,7 @@ class Showing(Dripping):
 
 class Steps(unittest.TestCase):
     def counted(self, given, stream):
-        """The records of a stream; the calls that look at all pieces, the octets there at each, and the octets that are fed."""
+        """The records of a stream; the calls that look at all chunks, the octets there at each, and the octets that are fed."""
         looks, fed = [], [0]
 
         def record_at(first, size, *others, call=library.record_at):
@@ -64,10 +64,10 @@ class Steps(unittest.TestCase):
         return len(looks), fed[0]
 
     def test_steps_grow_with_the_octets(self):
-        """Ten times the pieces are ten times the octets: reads and fed octets grow as these, looks don't grow with them."""
+        """Ten times the chunks are ten times the octets: reads and fed octets grow as these, looks don't grow with them."""
         for stream_of in (Dripping, Showing):
             for count in (40, 400, 4000):
-                given = pieces(count)
+                given = chunks(count)
                 stream = stream_of(given)
                 looks, fed = self.counted(given, stream)
                 self.assertLessEqual(stream.reads, 2 * len(given) + 2)
@@ -77,7 +77,7 @@ class Steps(unittest.TestCase):
     def test_looks_ahead_grow_slowly(self):
         """Where much can be shown, each look is at an eighth more octets at least, or at 64 more of them. One takes two calls."""
         for most in (2, 20, 63, 64, 512, 4096, 10 ** 6):
-            given = pieces(4000)
+            given = chunks(4000)
             looks, fed = self.counted(given, Showing(given, most))
             self.assertLessEqual(looks, 2 * (40 + len(given) // max(64, min(most, 512))))
             self.assertLessEqual(fed, 6 * len(given))

@@ -175,7 +175,7 @@ class Reading(unittest.TestCase):
 class Package(unittest.TestCase):
     def metadata(self, home):
         with mock.patch.dict(os.environ, {'NDEF_HOME': home}):
-            return runpy.run_path(str(TOP / 'python/backend.py'))['metadata']().decode()
+            return runpy.run_path(str(TOP / 'bindings/python/backend.py'))['metadata']().decode()
 
     def test_links_of_the_package(self):
         """None leads to a file that the package lacks."""
@@ -186,7 +186,7 @@ class Package(unittest.TestCase):
         self.assertIn('(https://example.com/simbegyor/docs/EXPLAIN.md)', data)
         self.assertEqual(email.message_from_string(data).get_all('Project-URL'),
                          ['Homepage, https://example.com/simbegyor', 'Changelog, https://example.com/simbegyor/CHANGELOG.md',
-                          'Documentation, https://example.com/simbegyor/python/README.md'])
+                          'Documentation, https://example.com/simbegyor/bindings/python/README.md'])
 
     @unittest.skipUnless(MAKER, 'no Python here has pip')
     def test_editable(self):
@@ -194,16 +194,16 @@ class Package(unittest.TestCase):
         with tempfile.TemporaryDirectory() as folder:
             copied = pathlib.Path(folder, 'copy')
             copied.mkdir()
-            names = ('python', 'VERSION', 'LICENSE-MIT', 'LICENSE-APACHE', 'dist/SOURCE')
+            names = ('pyproject.toml', 'bindings/python', 'VERSION', 'LICENSE-MIT', 'LICENSE-APACHE', 'dist/SOURCE')
             packed = subprocess.run(['tar', '-C', str(TOP), '-cf', '-', *names], stdout=subprocess.PIPE, check=True)
             subprocess.run(['tar', '-C', str(copied), '-xf', '-'], input=packed.stdout, check=True)
             environment = {**os.environ, 'NDEF_LIB_DIR': str(TOP / 'out/lib'), 'PYTHONPATH': ''}
             subprocess.run([MAKER, '-m', 'venv', '--system-site-packages', folder + '/here'], check=True)
             python = folder + '/here/bin/python'
-            done = subprocess.run([python, '-m', 'pip', 'install', '--no-index', '--no-deps', '-e', str(copied / 'python')], env=environment,
+            done = subprocess.run([python, '-m', 'pip', 'install', '--no-index', '--no-deps', '-e', str(copied)], env=environment,
                                   stdout=subprocess.PIPE, stderr=subprocess.STDOUT)
             self.assertEqual(done.returncode, 0, done.stdout.decode())
-            with open(copied / 'python/simbegyor_ndef/text.py', 'a') as file:
+            with open(copied / 'bindings/python/simbegyor_ndef/text.py', 'a') as file:
                 file.write('\nCHANGED = 7\n')
             said = subprocess.run([python, '-c', 'import simbegyor_ndef as ndef\nprint(ndef.text.CHANGED, ndef.__version__, '
                                    'next(ndef.message_decoder(bytes.fromhex("d101085402656e48656c6c6f"))).text)'], env=environment,
@@ -213,11 +213,11 @@ class Package(unittest.TestCase):
     @unittest.skipUnless(any(os.access(os.path.join(place, 'mypy'), os.X_OK) for place in os.get_exec_path()), 'there is no mypy')
     def test_programs_of_the_page_are_typed(self):
         with tempfile.TemporaryDirectory() as folder:
-            page = (TOP / 'python/README.md').read_text()
+            page = (TOP / 'bindings/python/README.md').read_text()
             for block in re.findall(r'^```python\n(.*?)^```$', page, re.M | re.S):
                 pathlib.Path(folder, re.match(r'# (\w+\.py)\n', block)[1]).write_text(block)
             done = subprocess.run(['mypy', '--strict', '--python-version', '3.9', '--cache-dir', folder + '/cache', '.'], cwd=folder,
-                                  env={**os.environ, 'MYPYPATH': str(TOP / 'python'), 'PYTHONPATH': ''}, stdout=subprocess.PIPE)
+                                  env={**os.environ, 'MYPYPATH': str(TOP / 'bindings/python'), 'PYTHONPATH': ''}, stdout=subprocess.PIPE)
             self.assertEqual(done.returncode, 0, done.stdout.decode())
 
 

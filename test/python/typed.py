@@ -20,7 +20,7 @@ helps: List[Optional[str]] = [answer.hint for answer in answers if isinstance(an
 said: List[Optional[str]] = [ndef.why(octets), ndef.hint(memoryview(octets), profile='standard')]
 found: List[Optional[ndef.FoundHint]] = [ndef.find_hint(octets, 'standard'), *(answer.found_hint for answer in answers if isinstance(answer, ndef.DecodeError))]
 kinds: List[Tuple[ndef.HintKind, int, int, str]] = [(hint.kind, hint.place, hint.length, hint.text) for hint in found if hint]
-strange: List[Optional[str]] = [*(ndef.field_remark(field.name, field.octets) for field in fields), ndef.record_remark(bytearray(octets), 0)]
+strange: List[Optional[str]] = [*(ndef.field_warning(field.name, field.octets) for field in fields), ndef.record_warning(bytearray(octets), 0)]
 names: Iterator[str] = (field.name for field in fields)
 ndef.Record('text/plain', b'name', bytearray(3)).name = 'a'
 ndef.HandoverCarrierRecord('a/b', b'x', 'a').carrier_data.extend(b'y')
@@ -38,6 +38,6 @@ encoder.send('text')  # type: ignore[arg-type]
 wrong_said: str = ndef.why(octets)  # type: ignore[assignment]
 ndef.hint('text')  # type: ignore[arg-type]
 wrong_found: ndef.FoundHint = ndef.find_hint(octets)  # type: ignore[assignment]
-ndef.field_remark(3, b'')  # type: ignore[arg-type]
-wrong_remark: str = ndef.record_remark(octets, 0)  # type: ignore[assignment]
+ndef.field_warning(3, b'')  # type: ignore[arg-type]
+wrong_remark: str = ndef.record_warning(octets, 0)  # type: ignore[assignment]
 ndef.layout.octets('2')  # type: ignore[arg-type]

@@ -4,7 +4,7 @@ import random
 
 from cases import TOP, values
 
-# Within a payload a record in pieces is refused.
+# Within a payload a record in chunks is refused.
 INNER = 100 * (1,) + (2,)
 KINDS = (b'T', b'U', b'Sp', b'Hr', b'Hs', b'Hc')
 
@@ -22,16 +22,16 @@ class Wild:
         self.payloads = {kind: [value.payload for value in values(kind.decode()) if value.words] for kind in (*KINDS, b'ac', b'err')}
 
     def head(self, flags, tnf, size):
-        """The first octet of a piece and what else is written before its type; the length in one octet or in four."""
+        """The first octet of a chunk and what else is written before its type; the length in one octet or in four."""
         short = size < 256 and self.chance.random() < 0.9
         return flags | tnf | 0x10 * short, bytes([size]) if short else size.to_bytes(4, 'big')
 
-    def record(self, tnf, kind, name, payload, flags, pieces=1):
-        """The octets of a record in pieces. The flags say whether it begins and whether it ends the message."""
+    def record(self, tnf, kind, name, payload, flags, chunks=1):
+        """The octets of a record in chunks. The flags say whether it begins and whether it ends the message."""
         chance, octets = self.chance, b''
-        cuts = [0] + sorted(chance.randrange(len(payload) + 1) for _ in range(pieces - 1)) + [len(payload)]
-        for piece in range(pieces):
-            part, is_first, is_last = payload[cuts[piece]:cuts[piece + 1]], piece == 0, piece == pieces - 1
+        cuts = [0] + sorted(chance.randrange(len(payload) + 1) for _ in range(chunks - 1)) + [len(payload)]
+        for chunk in range(chunks):
+            part, is_first, is_last = payload[cuts[chunk]:cuts[chunk + 1]], chunk == 0, chunk == chunks - 1
             has_name = is_first and (name != b'' or chance.random() < 0.1)
             marks = (flags & 0x80) * is_first | (flags & 0x40) * is_last | 0x20 * (not is_last) | 8 * has_name
             first, size = self.head(marks, tnf if is_first else 6, len(part))
@@ -39,10 +39,10 @@ class Wild:
             octets += (kind + name if is_first else b'') + part
         return octets
 
-    def message(self, records, pieces=(1, 1, 1, 1, 2, 3, 4)):
-        """The octets of these records, each in as many pieces as one of these numbers says; an empty record in one."""
+    def message(self, records, chunks=(1, 1, 1, 1, 2, 3, 4)):
+        """The octets of these records, each in as many chunks as one of these numbers says; an empty record in one."""
         last, chance = len(records) - 1, self.chance
-        return b''.join(self.record(*record, 0x80 * (at == 0) | 0x40 * (at == last), chance.choice(pieces) if record[0] else 1)
+        return b''.join(self.record(*record, 0x80 * (at == 0) | 0x40 * (at == last), chance.choice(chunks) if record[0] else 1)
                         for at, record in enumerate(records))
 
     def text(self):

@@ -7,7 +7,7 @@ import re
 import sys
 
 TOP = pathlib.Path(__file__).resolve().parents[2]
-PROVED = TOP / 'rust/src/proved'
+PROVED = TOP / 'bindings/rust/src/proved'
 CALL = re.compile(r'^pub fn (ndef_\w+)(?:<[^>]*>)?\((.*?)\)\s*(->\s*\w+)?\s*\{', re.S | re.M)
 HEAD = f'''#![cfg_attr(bare, no_std)]
 #![allow(unsafe_code, dead_code, improper_ctypes_definitions, clippy::missing_safety_doc)]

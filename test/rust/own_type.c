@@ -61,12 +61,12 @@ static int c_refusal(uint32_t *reason, uint64_t *place) {
     ndef_checked checked;
     ndef_record record;
     ndef_laid_out out;
-    ndef_usual_limits(&limits);
+    ndef_default_limits(&limits);
     ndef_check(message, length, &limits, &checked);
     *reason = checked.reason, *place = checked.place;
     for (ndef_size at = 0; ndef_record_at(message, checked.place, at, &record) == NDEF_OK; at = record.end) {
         if (record.tnf != NDEF_TNF_EXTERNAL || record.type_length != NAME || memcmp(message + record.type_at, "example.com:temp", NAME) != 0) continue;
-        if (record.pieces > 1) return 0;
+        if (record.chunks > 1) return 0;
         if (ndef_check_layout(message + record.payload_at, record.payload_length, &two, 1, &out) != NDEF_REFUSED) continue;
         *reason = out.reason;
         *place = out.length_fits ? record.payload_at + out.place : record.type_at + record.type_length - 1;

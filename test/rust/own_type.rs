@@ -1,6 +1,6 @@
-//! The record type of `crates/ndef_own_type` over the proved text that the Rust crate holds, for `own_type.c`.
+//! The record type of `crates/ndef_examples` over the proved text that the Rust crate holds, for `own_type.c`.
 #![allow(unsafe_code, dead_code)]
-#[path = "../../rust/src/proved/mod.rs"]
+#[path = "../../bindings/rust/src/proved/mod.rs"]
 mod proved;
 
 use proved::ndef_lang::{is_type, Fixed, OwnType, With};

@@ -1,6 +1,6 @@
 #!/usr/bin/env python3
 """Puts faults into the eraser and into the shim, one at a time, in a copy, and looks whether the tests tell each. One in the eraser has to be told
-by the second lexer: the list of differences is another, or the eraser stops. One in the shim has to be told by rust/tests/proved.rs or
+by the second lexer: the list of differences is another, or the eraser stops. One in the shim has to be told by bindings/rust/tests/proved.rs or
 by the tests of the values. Needs cargo and rustfmt. The last line is 'N passed, M failed'."""
 import os
 import pathlib
@@ -57,7 +57,7 @@ def in_eraser(copy, name, before, after):
 
 def tests(copy):
     words = ['cargo', 'test', '--offline', '--release', '--quiet', '--test', 'proved', '--test', 'rounds']
-    done = subprocess.run(words, cwd=copy / 'rust', capture_output=True, text=True, env={**os.environ, 'CARGO_PROFILE_RELEASE_OPT_LEVEL': '1'})
+    done = subprocess.run(words, cwd=copy / 'bindings/rust', capture_output=True, text=True, env={**os.environ, 'CARGO_PROFILE_RELEASE_OPT_LEVEL': '1'})
     return done.returncode
 
 
@@ -66,13 +66,13 @@ def main():
         harness.finish()
     with tempfile.TemporaryDirectory() as folder:
         copy = pathlib.Path(folder)
-        for name in ('crates', 'ports', 'rust', 'conformance', 'test'):
+        for name in ('crates', 'ports', 'bindings/rust', 'conformance', 'test'):
             shutil.copytree(TOP / name, copy / name, ignore=shutil.ignore_patterns('__pycache__', 'target', 'out'))
         harness.count('without a fault the eraser passes', subprocess.run([copy / 'ports/erase', copy / 'made']).returncode == 0)
         for name, before, after in ERASER:
             harness.count(f'told: {name}: {after or "nothing"} for {before}'.replace('\n', ' '), in_eraser(copy, name, before, after))
         harness.count('without a fault the tests pass', tests(copy) == 0)
-        shim = copy / 'rust/src/proved/shim.rs'
+        shim = copy / 'bindings/rust/src/proved/shim.rs'
         for before, after in SHIM:
             text = changed(shim, before, after)
             harness.count(f'told: shim.rs: {after or "nothing"} for {before}', tests(copy) != 0)

@@ -13,7 +13,7 @@ from erase_parts import lexer  # noqa: E402
 from harness import TOP  # noqa: E402
 
 # What each `requires` that is allowed begins with.
-ALLOWED = {'ndef_begin': ['requires* room { sem'], 'ndef_feed': ['requires* begun { ∃ₛ (λ (c : NdefChecker).']}
+ALLOWED = {'ndef_begin': ['requires* buffer { sem'], 'ndef_feed': ['requires* begun { ∃ₛ (λ (c : NdefChecker).']}
 # Functions that are no calls of C: what ndef_begin consists of.
 MORE = {'begun'}
 
@@ -36,8 +36,8 @@ def main():
     for path in sorted((TOP / 'crates/ndef_c/src').glob('*.rt')):
         demands.update(required(path.read_text()))
     harness.count('a requires is seen', required('fn a(b: u8) -> u8\n    requires { b < 3 }\n{ b }') == {'a': ['requires { b < 3 }']})
-    faces = {path: path.read_text() for path in sorted((TOP / 'rust/src').glob('*.rs'))}
-    code = re.sub(r'//[^\n]*', '', faces[TOP / 'rust/src/calls.rs'])
+    faces = {path: path.read_text() for path in sorted((TOP / 'bindings/rust/src').glob('*.rs'))}
+    code = re.sub(r'//[^\n]*', '', faces[TOP / 'bindings/rust/src/calls.rs'])
     called = set(re.findall(r'\bndef_\w+', code)) - {'ndef_c'} | set(re.findall(r'\bc::([a-z]\w*)\(', code))
     declared = set(re.findall(r'\b(ndef_\w+)\(', (TOP / 'include/ndef.h').read_text())) | MORE
     harness.count(f'the {len(called)} functions that the crate calls are declared', len(called) > 35 and called <= declared, *sorted(called - declared))

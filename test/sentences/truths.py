@@ -45,6 +45,10 @@ class Chunk:
         """The least size of a record that begins with these octets."""
         return self.head + (self.type_length if self.type_length is not None else 1 if 0 < self.tnf < 5 else 0) + (self.id_length or 0) + self.least
 
+    def known_size(self):
+        """The size of a record that begins with these octets, where it is known: all lengths have come, or it is an Empty one."""
+        return self.size if self.is_headed else self.least_size() if self.tnf == 0 else None
+
     def kind(self, table):
         """The kind of its payload in a message; '' where it is none or isn't known."""
         name = (self.type or b'').decode('latin-1')
@@ -121,7 +125,8 @@ def fixed(scene, noun, name, there, given):
 
 
 def least(scene, noun, name, at_least, given):
-    return noun == NOUNS.get(name) and scene.kind() == name and LEAST.get(name) == at_least and scene.length() == given < at_least
+    is_of_it = scene.kind() == name or name == 'U' and may_be_last_uri(scene)
+    return noun == NOUNS.get(name) and is_of_it and LEAST.get(name) == at_least and scene.length() == given < at_least
 
 
 def select(scene, given):
@@ -139,8 +144,21 @@ def shorter_field(scene, name, size, left):
         return False
     if name == 'language code':
         return scene.kind() == 'T' and len(payload) >= 1 and size == payload[0] & 0x3f and left == length - 1 and size > left
+    if name == 'auxiliary data reference':
+        return scene.kind() == 'ac' and auxiliaries(payload)[-1:] == [(len(payload) - 1, size)] and left == length - len(payload) < size
     kind = {'carrier data reference': 'ac', 'carrier type': 'Hc'}.get(name)
     return kind == scene.kind() and len(payload) >= 2 and size == payload[1] and left == length - 2 and size > left
+
+
+def auxiliaries(payload):
+    """The place of the length of each auxiliary reference that has begun, and that length."""
+    found = []
+    if len(payload) >= 2 and len(payload) > payload[1] + 2:
+        at = payload[1] + 3
+        while at < len(payload) and len(found) < payload[payload[1] + 2]:
+            found.append((at, payload[at]))
+            at += 1 + payload[at]
+    return found
 
 
 def even_text(scene):
@@ -179,8 +197,11 @@ def auxiliary(scene, count, at_least, left):
     payload, length = scene.payload(), scene.length()
     if scene.kind() != 'ac' or len(payload) < 2 or len(payload) < payload[1] + 3:
         return False
-    place = payload[1] + 2
-    return count == at_least == payload[place] and left == length - place - 1 and left < count
+    place, begun = payload[1] + 2, auxiliaries(payload)
+    end = sum(begun[-1]) + 1 if begun else place + 1
+    # The byte is the number of references, or the length of one of them.
+    is_at = len(payload) == (begun[-1][0] if begun else place) + 1
+    return is_at and count == at_least == payload[place] - len(begun) and left == length - end and 0 <= left < count
 
 
 def shorter_record(scene, at_least, left):
@@ -189,12 +210,37 @@ def shorter_record(scene, at_least, left):
 
 def longer_last(scene, size, left):
     chunk = scene.chunk
-    return bool(scene.inner) and chunk.last and chunk.is_headed and chunk.size == size < left == scene.left
+    return bool(scene.inner) and chunk.last and chunk.known_size() == size < left == scene.left
 
 
 def room_for_next(scene, left):
     chunk = scene.chunk
-    return bool(scene.inner) and not chunk.last and chunk.is_headed and scene.left is not None and scene.left - chunk.size == left < LEAST_RECORD
+    size = chunk.known_size()
+    return bool(scene.inner) and not chunk.last and None not in (size, scene.left) and scene.left - size == left < LEAST_RECORD
+
+
+def has_no_uri(scene):
+    """Whether the byte is in a smart poster in which no URI has come."""
+    return scene.table == 'Sp' and not any(other.kind('Sp') == 'U' for other in scene.inner[:-1])
+
+
+def may_be_last_uri(scene):
+    """Whether the record with the byte has to be the URI of a smart poster, and may be one by what has come of its type."""
+    return has_no_uri(scene) and scene.chunk.last and scene.chunk.may_be(b'U')
+
+
+def last_uri(scene, at_least, left):
+    chunk = scene.chunk
+    least_uri = chunk.head + 1 + (chunk.id_length or 0) + max(1, chunk.least)
+    return may_be_last_uri(scene) and scene.left == left < at_least <= least_uri
+
+
+def uri_to_follow(scene, at_least, left):
+    chunk = scene.chunk
+    if not has_no_uri(scene) or chunk.last or (chunk.may_be(b'U') and chunk.payload_length != 0):
+        return False
+    size = chunk.known_size()
+    return at_least == LEAST['Sp'] and None not in (size, scene.left) and scene.left - size == left < at_least
 
 
 def uri_in_poster(scene, count):
@@ -300,6 +346,8 @@ FORMS = [(re.compile(words), is_true) for words, is_true in (
     (rf'This record has at least {OCTETS}; {LEFT}', shorter_record),
     (rf'This record is the last \(ME\) and has {OCTETS}; {LEFT}', longer_last),
     (rf'Another record has to follow \(ME is clear\), of at least 3 octets; {LEFT}', room_for_next),
+    (rf'The last record \(ME\) of this poster has to be its URI \(`U`\), of at least {OCTETS}; {LEFT}', last_uri),
+    (rf'The URI \(`U`\) of this smart poster has to follow \(ME is clear\), in a record of at least {OCTETS}; {LEFT}', uri_to_follow),
     (r'Record (\d+) is the last of this smart poster, and none is a URI \(`U`\)\.', uri_in_poster),
     (r'Record (\d+) is a second URI \(`U`\) in this smart poster\.', one_uri),
     (r'This request must begin with a collision record \(`cr`\); its first record is another\.', begins_otherwise),
@@ -325,7 +373,7 @@ REASONS = {
     15: 'Bit 6 of the status octet of a text is reserved: it has to be 0.', 16: 'The language code of a text has to be ASCII.',
     17: 'The text is not UTF-8.', 18: 'The text is not UTF-16.', 19: 'The URI identifier codes from 24 to FF (hexadecimal) are reserved.',
     20: 'A smart poster has to have a URI record.', 21: 'A smart poster has only one URI record.',
-    22: 'The handover has another major version than 1.', 23: 'Nothing that may stand here fits the lengths that were given before.',
+    22: 'The handover has another major version than 1.', 23: 'Nothing that could follow this byte fits the lengths given so far.',
     25: 'A handover request has to begin with a collision resolution record.',
 }
 # The reason of which more is always known.
@@ -338,7 +386,7 @@ def forms():
     names = [form.__name__ for _, form in FORMS if form not in (fixed, least, error, shorter_field, missing)]
     names += [f'fixed {NOUNS[kind]} {kind}' for kind in FIXED] + [f'least {NOUNS[kind]} {kind}' for kind in LEAST]
     names += [f'error {reason}' for reason in ERROR_DATA] + [f'missing {field}' for field in FIELDS]
-    names += [f'shorter_field {field}' for field in ('language code', 'carrier data reference', 'carrier type')]
+    names += [f'shorter_field {field}' for field in ('language code', 'carrier data reference', 'carrier type', 'auxiliary data reference')]
     return {*names, *(f'reason {reason}' for reason in REASONS), *FORM_FOR_ONE, *FORM_FOR_MORE}
 
 

@@ -41,7 +41,7 @@ function areRecords(text, bytes, count) {
 function optionsOf(words, profile, opaque) {
     const options = { flags: (profile === "standard" ? Ndef.STANDARD : 0) | (opaque ? Ndef.OPAQUE : 0) };
     for (const name of ["payload", "records", "pieces"])
-        if (words.includes(name)) options[name] = Number(words[words.indexOf(name) + 1]);
+        if (words.includes(name)) options[name === "pieces" ? "chunks" : name] = Number(words[words.indexOf(name) + 1]);
     return options;
 }
 

@@ -2,8 +2,8 @@
 // script, and REMARKS and HINTS: whether the library has them. The last paragraph of the page has the failures then, and 'N passed, M failed'.
 const find = (id) => document.getElementById(id);
 const textOf = (id) => find(id).textContent;
-const LIMITS = ["payload", "records", "pieces"];
-const USUAL = { payload: 1048576, records: 1024, pieces: 4096 };
+const LIMITS = ["payload", "records", "chunks"];
+const USUAL = { payload: 1048576, records: 1024, chunks: 4096 };
 const TEXT = "D1 01 08 54 02 65 6E 48 65 6C 6C 6F";
 
 let passed = 0, failed = 0;
@@ -134,7 +134,7 @@ function showsRows() {
     look("fields of what isn't checked", fields().map((row) => row[2]), ["header", "TYPE_LENGTH", "PAYLOAD_LENGTH", "TYPE"]);
 }
 
-// The remarks on records and on fields, each with the record or the field that it follows; docs/EXPLAIN.md has them.
+// The warnings on records and on fields, each with the record or the field that it follows; docs/EXPLAIN.md has them.
 function showsRemarks() {
     const onRecords = () => [...document.querySelectorAll("#record-part .remark")].map((remark) => [remark.closest("tr").children[0].textContent, remark.textContent]);
     const onFields = () => [...document.querySelectorAll("#field-part .remark")].map((row) => [row.previousSibling.children[1].textContent, row.textContent]);
@@ -145,7 +145,7 @@ function showsRemarks() {
     look("a remark on a field of the second message", told("D00000 C00000000000"), known([], [["PAYLOAD_LENGTH", long]]));
     const REFUSED = "9D000001 61 0D0000000000 01 61 D7", POSTER = "D102065370 D10102550061";
     look("remarks on neither where the message is refused", told(REFUSED), [[], []]);
-    look("at most 500 fields, with remarks", [told("C00000000000".repeat(200))[1].length, document.querySelectorAll("#field-part tbody tr").length],
+    look("at most 500 fields, with warnings", [told("C00000000000".repeat(200))[1].length, document.querySelectorAll("#field-part tbody tr").length],
         REMARKS ? [166, 666] : [0, 500]);
     look("a hundred tables", document.querySelectorAll("#record-part table").length, 100);
     const asked = (hex) => { window.asked = 0; enter(hex); return window.asked; };

@@ -1,5 +1,5 @@
 // node test/web/input.mjs: which bytes the page takes from what is pasted, by the layouts that tools print. Prints 'N passed, M failed'.
-import { bytesOf } from "../../web/page_input.js";
+import { bytesOf } from "../../bindings/web/page_input.js";
 import { finish, hexOf, same, test } from "./tests.mjs";
 
 // The bytes in hexadecimal and the form, or what is wrong.

@@ -96,6 +96,6 @@ function messageText(bytes) {
     }).join(" || ");
 }
 
-const usual = calls.usualLimits(), lines = [`${usual.payload} ${usual.records} ${usual.pieces} ${usual.flags}`];
+const usual = calls.defaultLimits(), lines = [`${usual.payload} ${usual.records} ${usual.chunks} ${usual.flags}`];
 for (const hex of readFileSync(process.argv[2], "utf8").split("\n").slice(0, -1)) lines.push(messageText(Uint8Array.from(Buffer.from(hex, "hex"))));
 process.stdout.write(lines.join("\n") + "\n");

@@ -3,12 +3,13 @@
 // bytes changed and cut off; over what the fuzzer found; and over this many random messages. Each payload is read as every type.
 // Prints 'N passed, M failed'.
 import { readFileSync } from "node:fs";
+import { byNames } from "../../out/web/calling.js";
 import { Ndef } from "../../out/web/ndef.js";
 import { below, randomLimits, randomMessage } from "./random.mjs";
 
 const code = readFileSync(new URL("../../out/web/ndef.wasm", import.meta.url));
 const ndef = await Ndef.load(code);
-const c = (await WebAssembly.instantiate(code)).instance.exports;
+const c = byNames((await WebAssembly.instantiate(code)).instance.exports);
 const base = (Number(c.__heap_base.value) + 15) & ~15;
 const OUT = 64, WHY = 256, COUNT = 320, ARRAY = 8192, INPUT = 1 << 20, ROOM = 3 << 20;
 c.memory.grow(128);
@@ -123,7 +124,7 @@ function payloads(bytes, profiles) {
 }
 
 // A record, as ndef_record_at and ndef_payload tell it.
-const RECORD = ["at", "end", "typeAt", "typeLength", "idAt", "idLength", "payloadAt", "partLength", "payloadLength", "pieces"];
+const RECORD = ["at", "end", "typeAt", "typeLength", "idAt", "idLength", "payloadAt", "partLength", "payloadLength", "chunks"];
 function record(bytes, at, within) {
     const input = put(bytes), status = c.ndef_record_at(...input, BigInt(at), base + OUT);
     if (status !== 0) return { status };
@@ -179,7 +180,7 @@ const named = (call, value) => (c[call](value, base + ROOM, 80n, base + COUNT) =
 const FIELD_NAMES = Array.from({ length: 64 }, (_, value) => named("ndef_field_name", value));
 
 function checks(bytes, options, flags) {
-    const limits = [options.payload ?? 1048576, options.records ?? 1024, options.pieces ?? 4096, flags];
+    const limits = [options.payload ?? 1048576, options.records ?? 1024, options.chunks ?? 4096, flags];
     limits.forEach((value, index) => view.setUint32(base + 4 * index, value, true));
     const input = put(bytes), status = c.ndef_check(...input, base, base + OUT);
     const checked = (at) => ({ place: u64(at), records: u32(at + 8), reason: u32(at + 12) });
@@ -199,7 +200,7 @@ function checks(bytes, options, flags) {
 const answered = { taken: 0, refused: 0, cut: 0, chunked: 0 };
 
 const BYTES = 7; // the column of a case that has its bytes
-const SMALL = { payload: 9, records: 2, pieces: 2 }, ALL = [0, 1, 2, 3];
+const SMALL = { payload: 9, records: 2, chunks: 2 }, ALL = [0, 1, 2, 3];
 for (const line of readFileSync(0, "utf8").split("\n").filter(Boolean)) {
     const hex = line.split("|")[BYTES].trim(), bytes = fromHex(hex === "-" ? "" : hex);
     if (bytes.length > 20000) continue;
@@ -216,7 +217,7 @@ for (const line of readFileSync(0, "utf8").split("\n").filter(Boolean)) {
 // An input of the fuzzer: two bytes that choose how it is read, and the message.
 for (const line of readFileSync(new URL("../fuzz/corpus.txt", import.meta.url), "utf8").split("\n").filter((digits) => digits.length >= 4)) {
     const given = fromHex(line), bytes = given.subarray(2);
-    checks(bytes, given[0] & 4 ? { payload: 16, records: 2, pieces: 2 } : {}, given[0] & 3);
+    checks(bytes, given[0] & 4 ? { payload: 16, records: 2, chunks: 2 } : {}, given[0] & 3);
     records(bytes, [given[0] & 1], () => true);
 }
 const most = Number(process.argv[2] ?? 100000);
@@ -229,7 +230,7 @@ for (let made = 0; made < most; made++) {
     checks(bytes, options, flags);
     reads(bytes, options, flags);
     records(bytes, [flags & 1], (_, index) => index === looked);
-    answered.chunked += ndef.recordAt(bytes, 0).pieces > 1;
+    answered.chunked += ndef.recordAt(bytes, 0).chunks > 1;
 }
 for (let value = 0; value < 64; value++) {
     look("reasonName", ndef.reasonName(value), named("ndef_reason_name", value), []);
@@ -240,7 +241,7 @@ for (let value = 0; value < 64; value++) {
 // A text whose language code doesn't fit, a message after a byte that may be of a tag, a message, and bytes whose payloads aren't
 // checked. The library of an older release hasn't these calls, as that in dist/ may be.
 const late = [0xd1, 1, 6, 0x54, 0x3f, 0, 0, 0, 0, 0], after = [1, 0xd0, 0, 0];
-if (process.env.NDEF_FROM !== "dist" || c.ndef_why !== undefined) {
+if (process.env.NDEF_FROM !== "dist" || c.ndef_refusal_message !== undefined) {
     look("why", ndef.why(new Uint8Array(late)), "The language code has 63 octets; 5 are left in the payload.", late);
     look("why", ndef.why(new Uint8Array([0xd0, 0, 0])), null, [0xd0, 0, 0]);
     look("why", ndef.why(new Uint8Array(late), { flags: Ndef.OPAQUE }), null, late);
@@ -258,27 +259,27 @@ if (process.env.NDEF_FROM !== "dist" || c.ndef_find_hint !== undefined) {
     look("findHint", [Ndef.STANDARD, Ndef.OPAQUE].map((flags) => ndef.findHint(new Uint8Array(reserved), { flags })), [null, null], reserved);
 }
 // What is strange in fields and in records, by docs/EXPLAIN.md; three records have the ids a, b and a.
-if (process.env.NDEF_FROM !== "dist" || c.ndef_record_remark !== undefined) {
-    look("fieldRemark", ndef.fieldRemark("action", new Uint8Array([3])), "The action 3 is reserved.", []);
-    look("fieldRemark", ndef.fieldRemark("action", new Uint8Array([2])), null, []);
-    look("fieldRemark", ndef.fieldRemark("PAYLOAD_LENGTH", new Uint8Array([0, 0, 0, 3])),
+if (process.env.NDEF_FROM !== "dist" || c.ndef_record_warning !== undefined) {
+    look("fieldWarning", ndef.fieldWarning("action", new Uint8Array([3])), "The action 3 is reserved.", []);
+    look("fieldWarning", ndef.fieldWarning("action", new Uint8Array([2])), null, []);
+    look("fieldWarning", ndef.fieldWarning("PAYLOAD_LENGTH", new Uint8Array([0, 0, 0, 3])),
         "The payload length 3 fits one octet (SR): the message could be 3 bytes shorter.", []);
     const twice = new Uint8Array([0x9d, 0, 0, 1, 0x61, 0x1d, 0, 0, 1, 0x62, 0x5d, 0, 0, 1, 0x61]), again = "Another record has the same id.";
-    look("recordRemark", [0, 1, 2, 3, 1e15].map((index) => ndef.recordRemark(twice, index)), [again, null, again, null, null], twice);
-    look("recordRemark", ndef.recordRemark(twice.subarray(0, 14), 0), null, twice);
+    look("recordWarning", [0, 1, 2, 3, 1e15].map((index) => ndef.recordWarning(twice, index)), [again, null, again, null, null], twice);
+    look("recordWarning", ndef.recordWarning(twice.subarray(0, 14), 0), null, twice);
 }
-for (const wrong of [() => ndef.fieldRemark("uri", new Uint8Array(1)), () => ndef.recordRemark(new Uint8Array(1), -1)]) {
+for (const wrong of [() => ndef.fieldWarning("uri", new Uint8Array(1)), () => ndef.recordWarning(new Uint8Array(1), -1)]) {
     let refused = null;
     try { wrong(); } catch (error) { refused = error; }
     look("a bad argument for a remark", refused instanceof RangeError, true, []);
 }
-const older = new Ndef({ ...c, ndef_why: undefined });
+const older = new Ndef({ ...c, ndef_refusal_message: undefined, ndef_why: undefined });
 let said = "";
 try { older.why(new Uint8Array(late)); } catch (error) { said = String(error); }
-look("a call that the library lacks", [said, older.lacks.has("ndef_why"), older.lacks.has("ndef_check")],
-    ["Error: the library has no ndef_why: it is of an older version than ndef.js", true, false], late);
-c.ndef_usual_limits(base);
-look("usualLimits", ndef.usualLimits(), { payload: u32(0), records: u32(4), pieces: u32(8), flags: u32(12) }, []);
+look("a call that the library lacks", [said, older.lacks.has("ndef_refusal_message"), older.lacks.has("ndef_check")],
+    ["Error: the library has no ndef_refusal_message: it is of an older version than ndef.js", true, false], late);
+c.ndef_default_limits(base);
+look("defaultLimits", ndef.defaultLimits(), { payload: u32(0), records: u32(4), chunks: u32(8), flags: u32(12) }, []);
 
 // A byte order mark is a character of a text in UTF-8, and the memory grows by what is given.
 look("text", ndef.text(fromHex("02656EEFBBBF61")).text, "\ufeffa", []);

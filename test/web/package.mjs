@@ -271,14 +271,14 @@ await test("bytes that are no smart poster are refused", () => {
 
 const READERS = { check, decode, decodePrefix, fields, explain };
 await test("bytes have any shape, and nothing else is bytes", () => {
-    const bytes = bytesOf("D101085402656E48656C6C6F"), room = new ArrayBuffer(28);
-    new Uint8Array(room, 8, 12).set(bytes);
+    const bytes = bytesOf("D101085402656E48656C6C6F"), buffer = new ArrayBuffer(28);
+    new Uint8Array(buffer, 8, 12).set(bytes);
     for (const read of Object.values(READERS)) {
         const wanted = read(bytes);
-        for (const shape of [bytes.buffer.slice(0), new DataView(room, 8, 12), new Uint16Array(room, 8, 6), Buffer.from(bytes)]) same(read(shape), wanted);
+        for (const shape of [bytes.buffer.slice(0), new DataView(buffer, 8, 12), new Uint16Array(buffer, 8, 6), Buffer.from(bytes)]) same(read(shape), wanted);
         for (const wrong of ["d00000", "", undefined, null, 3, [0xd0, 0, 0], {}, new Map()]) throws(TypeError, () => read(wrong));
         for (const wrong of [null, 3, "records"]) throws(TypeError, () => read(bytes, wrong));
-        for (const name of ["payload", "records", "pieces"]) {
+        for (const name of ["payload", "records", "chunks"]) {
             for (const value of [0, -1, 0.5, 2 ** 32, NaN]) throws(RangeError, () => read(bytes, { [name]: value }));
             throws(TypeError, () => read(bytes, { [name]: "1" }));
         }
@@ -287,7 +287,7 @@ await test("bytes have any shape, and nothing else is bytes", () => {
 });
 await test("each option is its own", () => {
     same(throws(NdefError, () => decode(bytesOf("900000500000"), { records: 1 })).name, "TooManyRecords");
-    same(throws(NdefError, () => decode(bytesOf("B1010154005600 0165"), { pieces: 1 })).name, "TooManyPieces");
+    same(throws(NdefError, () => decode(bytesOf("B1010154005600 0165"), { chunks: 1 })).name, "TooManyPieces");
     same(throws(NdefError, () => decode(bytesOf("D500020102"), { payload: 1 })).name, "PayloadTooLarge");
     same(throws(NdefError, () => decode(bytesOf("D70000"))).name, "ReservedTnf");
     same([recordOf("D70000", { standard: true }).recordType, recordOf("D1010255FF61", { standard: true }).uri], ["unknown", "a"]);
@@ -319,7 +319,7 @@ await test("every case of the suite is answered", () => all.forEach(({ bytes, op
     if (isAccepted) {
         const { message, length } = decodePrefix(bytes, options);
         same([length, check(bytes, options), line], [place, { length: place, records: message.records.length }, line]);
-        same(encode(message, options), calls.rewrite(bytes).bytes);
+        same(encode(message, options), calls.normalize(bytes).bytes);
         return;
     }
     for (const read of [check, decode, decodePrefix]) {
@@ -335,7 +335,7 @@ await test("every case of the suite is explained", () => all.filter(({ options }
     else same(throws(NdefError, () => fields(bytes, options)).place, place);
 }));
 // The library of release 0.2.0 has no such calls. RTD Text 1.0 and RTD URI 1.0 say what is wrong with the bytes.
-if (!calls.lacks.has("ndef_why")) await test("why bytes are refused, and what may help", () => {
+if (!calls.lacks.has("ndef_refusal_message")) await test("why bytes are refused, and what may help", () => {
     const long = bytesOf("D1 01 06 54 3F 61 62 63 64 65"), uri = bytesOf("D1 01 06 55 68 74 74 70 3A 2F"), good = bytesOf("D00000");
     same([why(long), hint(long)], ["The language code has 63 octets; 5 are left in the payload.", null]);
     same(hint(uri.buffer), "68 (hexadecimal) is the letter h: was the identifier code left out?");

@@ -44,7 +44,7 @@ function spansOf(bytes, options, refused) {
 // The cells of a record of a case: TNF TYPE ID PAYLOAD.
 function rowOf(text, index, record) {
     const [tnf, type, id, payload] = text.trim().split(" ");
-    const bytes = fromHex(payload), chunks = record.pieces > 1 ? ` in ${record.pieces} chunks` : "", more = bytes.length > 32 ? " …" : "";
+    const bytes = fromHex(payload), chunks = record.chunks > 1 ? ` in ${record.chunks} chunks` : "", more = bytes.length > 32 ? " …" : "";
     return [
         `${index + 1}`, `${record.at}`, FORMATS[tnf], quoted(fromHex(type)), quoted(fromHex(id)),
         plural(bytes.length, "byte") + chunks + upper(bytes.slice(0, 32)) + more,
@@ -53,8 +53,8 @@ function rowOf(text, index, record) {
 
 function caseOf(fields, profile, opaque) {
     const [, , , , , , limits, hex, answer, records] = fields, bytes = fromHex(hex), words = limits.split(" ");
-    const flags = (profile === "standard" ? Ndef.STANDARD : 0) | (opaque ? Ndef.OPAQUE : 0), options = ndef.usualLimits();
-    for (const name of ["payload", "records", "pieces"]) if (words.includes(name)) options[name] = Number(words[words.indexOf(name) + 1]);
+    const flags = (profile === "standard" ? Ndef.STANDARD : 0) | (opaque ? Ndef.OPAQUE : 0), options = ndef.defaultLimits();
+    for (const name of ["payload", "records", "pieces"]) if (words.includes(name)) options[name === "pieces" ? "chunks" : name] = Number(words[words.indexOf(name) + 1]);
     const [word, place, number] = answer.split(" "), told = { hex: upper(bytes), profile, payloads: opaque ? "opaque" : "typed", options };
     if (word === "accepted") {
         const rows = records.split(","), all = ndef.records(bytes);
@@ -87,9 +87,9 @@ const READER = `window.NDEFReader = class extends EventTarget {
 // Counts how often the library is asked for a remark on a record.
 const COUNTER = `const { instantiate } = WebAssembly;
 WebAssembly.instantiate = async (...given) => {
-    const { exports } = (await instantiate(...given)).instance, { ndef_record_remark: call } = exports;
+    const { exports } = (await instantiate(...given)).instance, { ndef_record_warning: call } = exports;
     const counted = (...words) => { window.asked++; return call(...words); };
-    return { instance: { exports: call ? { ...exports, ndef_record_remark: counted } : exports } };
+    return { instance: { exports: call ? { ...exports, ndef_record_warning: counted } : exports } };
 };
 window.asked = 0;`;
 
@@ -97,7 +97,7 @@ const browser = await Browser.start();
 try {
     for (const source of [READER, COUNTER]) await browser.send("Page.addScriptToEvaluateOnNewDocument", { source });
     await browser.open(`file://${fileURLToPath(at("../../out/web/index.html"))}`, 'document.getElementById("verdict").textContent !== ""');
-    await browser.evaluate(`{ window.CASES = ${JSON.stringify(cases.filter(Boolean))}; window.REMARKS = ${!ndef.lacks.has("ndef_record_remark")}; window.HINTS = ${!ndef.lacks.has("ndef_find_hint")};\n${readFileSync(at("./in_page.js"), "utf8")} }`);
+    await browser.evaluate(`{ window.CASES = ${JSON.stringify(cases.filter(Boolean))}; window.REMARKS = ${!ndef.lacks.has("ndef_record_warning")}; window.HINTS = ${!ndef.lacks.has("ndef_find_hint")};\n${readFileSync(at("./in_page.js"), "utf8")} }`);
     await browser.until('document.getElementById("report")?.textContent');
     const report = await browser.evaluate('document.getElementById("report").textContent');
     console.log(report.replaceAll(". FAILED", ".\nFAILED").replace(/([0-9]+ passed, [0-9]+ failed)$/, "\n$1").trim());

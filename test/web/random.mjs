@@ -100,6 +100,6 @@ export function randomLimits() {
     const options = {};
     if (below(6) === 0) options.payload = 1 + below(20);
     if (below(6) === 0) options.records = 1 + below(3);
-    if (below(6) === 0) options.pieces = 1 + below(3);
+    if (below(6) === 0) options.chunks = 1 + below(3);
     return options;
 }

@@ -60,7 +60,7 @@ export function cases() {
     return readFileSync(0, "utf8").split("\n").filter(Boolean).flatMap((line) => {
         const [, , , , languages, profile, limits, hex, answer] = line.split("|").map((field) => field.trim()), words = limits.split(" ");
         const options = {};
-        for (const name of ["payload", "records", "pieces"]) if (words.includes(name)) options[name] = Number(words[words.indexOf(name) + 1]);
+        for (const name of ["payload", "records", "pieces"]) if (words.includes(name)) options[name === "pieces" ? "chunks" : name] = Number(words[words.indexOf(name) + 1]);
         const profiles = profile === "both" ? ["strict", "standard"] : [profile], [word, place, reason] = answer.split(" ");
         return ["typed", "opaque"].filter((name) => languages.split(" ").includes(name)).flatMap((language) => profiles.map((name) => ({
             line, bytes: bytesOf(hex), options: { ...options, standard: name === "standard", opaque: language === "opaque" },

@@ -7,7 +7,7 @@ import {
 import { Ndef as Calls } from "simbegyor-ndef/calls";
 import code from "simbegyor-ndef/wasm";
 
-const bytes = new Uint8Array(3), options: Options = { payload: 1, records: 1, pieces: 1, standard: true, opaque: false };
+const bytes = new Uint8Array(3), options: Options = { payload: 1, records: 1, chunks: 1, standard: true, opaque: false };
 const message: NDEFMessage = decode(bytes, options), [record]: readonly NDEFRecord[] = message.records;
 const { length, records }: { length: number; records: number } = check(bytes.buffer);
 const prefix: { message: NDEFMessage; length: number } = decodePrefix(new DataView(bytes.buffer), {});

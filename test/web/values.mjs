@@ -45,13 +45,13 @@ test("what is no bytes is a TypeError", () => READERS.every((read) => NO_BYTES.e
 
 // The same octets as an ArrayBuffer, and in the middle of one by views of elements of 8, 16 and 32 bits.
 function shapes(bytes) {
-    const room = new ArrayBuffer(bytes.length + 16), shared = new SharedArrayBuffer(bytes.length);
-    new Uint8Array(room).fill(0xff);
-    new Uint8Array(room).set(bytes, 8);
+    const buffer = new ArrayBuffer(bytes.length + 16), shared = new SharedArrayBuffer(bytes.length);
+    new Uint8Array(buffer).fill(0xff);
+    new Uint8Array(buffer).set(bytes, 8);
     new Uint8Array(shared).set(bytes);
     return [
-        bytes.slice().buffer, new DataView(room, 8, bytes.length), new Uint8Array(room, 8, bytes.length), Buffer.from(bytes), shared,
-        new Int8Array(room, 8, bytes.length), new Uint16Array(room, 8, bytes.length / 2), new Float32Array(room, 8, bytes.length / 4),
+        bytes.slice().buffer, new DataView(buffer, 8, bytes.length), new Uint8Array(buffer, 8, bytes.length), Buffer.from(bytes), shared,
+        new Int8Array(buffer, 8, bytes.length), new Uint16Array(buffer, 8, bytes.length / 2), new Float32Array(buffer, 8, bytes.length / 4),
     ];
 }
 
@@ -64,7 +64,7 @@ test("what is given isn't changed", () => {
     return same([...given], [...HELLO]);
 });
 
-const LIMITS = ["payload", "records", "pieces", "flags"];
+const LIMITS = ["payload", "records", "chunks", "flags"];
 const WRAPPED = [-1, 0.5, 2 ** 32, 2 ** 32 + 1, NaN, Infinity, -Infinity, Number.MAX_SAFE_INTEGER];
 const CHECKS = ["check", "checkAll", "fields"];
 const everywhere = (holds) => CHECKS.every((call) => LIMITS.every((name) => holds(call, name)));
@@ -74,11 +74,11 @@ test("a limit that isn't a whole number of 32 bits is a RangeError", () => every
 test("a limit that is no number is a TypeError", () => everywhere((call, name) =>
     ["1", null, true, 1n, {}, [1]].every((value) => throws(TypeError, () => ndef[call](EMPTY, { [name]: value })))));
 test("a limit that the library refuses is a RangeError", () => CHECKS.every((call) =>
-    [{ payload: 0 }, { records: 0 }, { pieces: 0 }, { records: 65536 }, { pieces: 65536 }, { flags: 4 }].every((options) =>
+    [{ payload: 0 }, { records: 0 }, { chunks: 0 }, { records: 65536 }, { chunks: 65536 }, { flags: 4 }].every((options) =>
         throws(RangeError, () => ndef[call](EMPTY, options)))));
 test("a limit that is refused is named with the others", () => {
-    try { ndef.check(EMPTY, { payload: 258, records: 0, pieces: 772, flags: 1 }); } catch (error) {
-        return error.message.endsWith(': {"payload":258,"records":0,"pieces":772,"flags":1}');
+    try { ndef.check(EMPTY, { payload: 258, records: 0, chunks: 772, flags: 1 }); } catch (error) {
+        return error.message.endsWith(': {"payload":258,"records":0,"chunks":772,"flags":1}');
     }
     return false;
 });
@@ -88,9 +88,9 @@ test("options are an object", () => CHECKS.every((call) =>
     && same(ndef[call](EMPTY, undefined), ndef[call](EMPTY)) && same(ndef[call](EMPTY, { payload: undefined }), ndef[call](EMPTY))));
 test("each limit is its own", () => {
     const two = fromHex("900000 500000"), chunks = fromHex("B1010154 00 56000165"), long = fromHex("D5000201 02");
-    return ndef.check(two, { records: 1 }).reason === 10 && ndef.check(two, { records: 2, pieces: 1, payload: 1 }).place === 6
-        && ndef.check(chunks, { pieces: 1 }).reason === 9 && ndef.check(chunks, { pieces: 2, records: 1, payload: 2 }).place === 9
-        && ndef.check(long, { payload: 1 }).reason === 14 && ndef.check(long, { payload: 2, records: 1, pieces: 1 }).place === 5;
+    return ndef.check(two, { records: 1 }).reason === 10 && ndef.check(two, { records: 2, chunks: 1, payload: 1 }).place === 6
+        && ndef.check(chunks, { chunks: 1 }).reason === 9 && ndef.check(chunks, { chunks: 2, records: 1, payload: 2 }).place === 9
+        && ndef.check(long, { payload: 1 }).reason === 14 && ndef.check(long, { payload: 2, records: 1, chunks: 1 }).place === 5;
 });
 test("flags, places, reasons and names are whole numbers", () =>
     [(value) => ndef.uri(fromHex("0061"), value), (value) => ndef.poster(POSTER, value), (value) => ndef.request(EMPTY, value),
@@ -139,7 +139,7 @@ test("two links are told, and the second refers to no record", () => {
 test("kinds, statuses and flags have the numbers of the header", () => {
     const header = readFileSync(new URL("../../include/ndef.h", import.meta.url), "utf8");
     const kinds = [...header.matchAll(/NDEF_KIND_(\w+) = (\d+)/g)].map(([, name, number]) => [name, Number(number)]);
-    return same(Ndef.KIND, Object.fromEntries(kinds)) && ["OK", "REFUSED", "NO_ROOM", "BAD_ARGUMENT", "END", "MORE", "STANDARD", "OPAQUE"].every(
+    return same(Ndef.KIND, Object.fromEntries(kinds)) && ["OK", "REFUSED", "BUFFER_TOO_SMALL", "BAD_ARGUMENT", "END", "MORE", "STANDARD", "OPAQUE"].every(
         (name) => new RegExp(`NDEF_${name} = ${Ndef[name]}\\b`).test(header));
 });
 

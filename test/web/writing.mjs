@@ -71,15 +71,15 @@ await test("what no character or number is", () => {
             () => calls.writeError(wrong), () => calls.writeErrorNumber(1, wrong), () => calls.writeErrorNumber(wrong, 1), () => calls.writeHandover(true, wrong, 0), () => calls.writeHandover(true, 1, wrong),
             () => calls.writePoster({ uri: "", size: wrong }), () => calls.writePoster({ uri: "", action: wrong }), () => calls.writeRequest({ minor: wrong, collision: 0 }),
             () => calls.writeRequest({ minor: 0, collision: wrong }), () => calls.writeRequest({ minor: 0, collision: 0, alternatives: [{ power: wrong, references: ["a"] }] }),
-            () => calls.writeSelect({ minor: wrong }), () => calls.writeSelect({ minor: 0, error: { reason: wrong } }), () => calls.rewrite(bytesOf("D00000"), wrong)]) throws(RangeError, call);
+            () => calls.writeSelect({ minor: wrong }), () => calls.writeSelect({ minor: 0, error: { reason: wrong } }), () => calls.normalize(bytesOf("D00000"), wrong)]) throws(RangeError, call);
 });
 await test("large records", () => {
     const payload = new Uint8Array(3000000).fill(7), { bytes } = calls.writeRecord({ tnf: 5, payload, flags: 3 });
     same([bytes.length, hexOf(bytes.subarray(0, 8)), bytes.subarray(6).every((byte) => byte === 7)], [3000006, "c500002dc6c00707", true]);
 });
 await test("messages written again", () => {
-    same([written(calls.rewrite(bytesOf("B10101540056000178"))), written(calls.rewrite(bytesOf("D0000007"), Ndef.WRITE_LONG)), written(calls.rewrite(bytesOf("90"))),
-        written(calls.rewrite(bytesOf("D00000"), 1))], [lower("D1 01 02 54 0078"), "c00000000000", BAD, BAD]);
+    same([written(calls.normalize(bytesOf("B10101540056000178"))), written(calls.normalize(bytesOf("D0000007"), Ndef.WRITE_LONG)), written(calls.normalize(bytesOf("90"))),
+        written(calls.normalize(bytesOf("D00000"), 1))], [lower("D1 01 02 54 0078"), "c00000000000", BAD, BAD]);
 });
 
 // ---- bytes in parts
@@ -220,7 +220,7 @@ await test("a record alone is a message, and one within a payload is checked wit
     same(throws(NdefError, () => encode({ records: [{ recordType: "smart-poster", data: { records: [EMPTY, text] } }] })).record, null);
 });
 // The library of release 0.2.0 doesn't say what is wanted.
-if (!calls.lacks.has("ndef_why")) await test("an error says what is wanted", () =>
+if (!calls.lacks.has("ndef_refusal_message")) await test("an error says what is wanted", () =>
     same(throws(NdefError, () => encode({ records: [EMPTY, { tnf: 1, type: "T" }] })).sentence, "A text (`T`) has at least 1 octet; 0 were given."));
 await test("an error says what its reason means where payloads aren't checked", () => {
     const { sentence, reason } = throws(NdefError, () => encode({ records: [EMPTY, EMPTY] }, { records: 1, opaque: true }));
