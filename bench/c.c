@@ -7,6 +7,7 @@
  * A time is the least of many runs, of processor time. */
 #include "timing.h"
 #include "ndef.h"
+#include "../test/c/since.h"
 #ifdef WITH_CALLGRIND
 #include <valgrind/callgrind.h>
 #else
@@ -18,7 +19,7 @@ static const char *const names[] = {"hello", "umlauts", "uri", "poster", "record
                                     "records-100", "records-10000", "records-60000", "cut"};
 enum { NAMES = sizeof names / sizeof *names };
 static ndef_limits limits;
-static uint8_t room[1 << 20];
+static uint8_t buffer[1 << 20];
 
 static uint32_t check(const message *m) {
     ndef_checked checked;
@@ -47,8 +48,8 @@ static uint32_t feed(const message *m) {
 }
 
 static uint32_t copy(const message *m) {
-    memcpy(room, m->at, m->length < sizeof room ? m->length : sizeof room);
-    __asm__ volatile("" : : "r"(room) : "memory");
+    memcpy(buffer, m->at, m->length < sizeof buffer ? m->length : sizeof buffer);
+    __asm__ volatile("" : : "r"(buffer) : "memory");
     return NDEF_OK;
 }
 
@@ -56,14 +57,14 @@ static uint32_t record_at(const message *m) { ndef_record record; return ndef_re
 #if NDEF_VERSION_MAJOR > 0 || NDEF_VERSION_MINOR >= 4
 static uint32_t items(const message *m) { ndef_checked checked; ndef_item given[4]; return ndef_items(m->at, m->length, &limits, &checked, given, 4); }
 #endif
-static uint32_t payload(const message *m) { ndef_size count; return ndef_payload(m->at, m->length, 0, room, sizeof room, &count); }
+static uint32_t payload(const message *m) { ndef_size count; return ndef_payload(m->at, m->length, 0, buffer, sizeof buffer, &count); }
 
 /* Calls of payloads. The message is a payload for them. */
 static ndef_checked why;
 static uint32_t text(const message *m) { ndef_text_parts parts; return ndef_text(m->at, m->length, &parts, &why); }
-static uint32_t text_in_utf8(const message *m) { ndef_size count; return ndef_text_in_utf8(m->at, m->length, room, sizeof room, &count, &why); }
-static uint32_t uri(const message *m) { ndef_size count; return ndef_uri(m->at, m->length, 0, room, sizeof room, &count, &why); }
-static uint32_t uri_view(const message *m) { ndef_uri_parts parts; return ndef_uri_view(m->at, m->length, 0, &parts, &why); }
+static uint32_t text_in_utf8(const message *m) { ndef_size count; return ndef_text_in_utf8(m->at, m->length, buffer, sizeof buffer, &count, &why); }
+static uint32_t uri(const message *m) { ndef_size count; return ndef_uri(m->at, m->length, 0, buffer, sizeof buffer, &count, &why); }
+static uint32_t uri_view(const message *m) { ndef_uri_parts parts; return ndef_split_uri(m->at, m->length, 0, &parts, &why); }
 static uint32_t carrier(const message *m) { ndef_carrier_parts parts; return ndef_carrier(m->at, m->length, &parts, &why); }
 static uint32_t error(const message *m) { ndef_error_parts parts; return ndef_error(m->at, m->length, &parts, &why); }
 static uint32_t alternative(const message *m) { ndef_alternative_parts parts; return ndef_alternative(m->at, m->length, &parts, &why); }
@@ -88,7 +89,7 @@ static const counted counts[] = {
     {"ndef_text_in_utf8 of it", text_in_utf8, BYTES("\x02" "enHello")},
     {"ndef_text, refused at its last byte", text, BYTES("\x02" "enHell\xFF")},
     {"ndef_uri of http://www.example.com", uri, BYTES("\x01" "example.com")},
-    {"ndef_uri_view of it", uri_view, BYTES("\x01" "example.com")},
+    {"ndef_split_uri of it", uri_view, BYTES("\x01" "example.com")},
     {"ndef_carrier", carrier, BYTES("\x02\x03" "a/b" "data")},
     {"ndef_error", error, BYTES("\x01\x10")},
     {"ndef_alternative", alternative, BYTES("\x01\x01" "0\x00")},
@@ -156,8 +157,8 @@ static int call_once(const char *folder, const char *call, const char *name) {
 }
 
 int main(int count, char **arguments) {
-    ndef_usual_limits(&limits);
-    limits.records = limits.pieces = 65535;
+    ndef_default_limits(&limits);
+    limits.records = limits.chunks = 65535;
     if (count == 5 && strcmp(arguments[2], "once") == 0) return call_once(arguments[1], arguments[3], arguments[4]);
     if (count != 3) return 2;
     if (strcmp(arguments[2], "instructions") == 0) count_all(arguments[1]);

@@ -32,7 +32,7 @@ fn checked(bytes: &[u8], limits: &Limits) -> bool {
 fn main() {
     let (folder, milliseconds) = words();
     let limits = Limits::new().with_payload(std::num::NonZeroU32::MAX).with_records(std::num::NonZeroU16::MAX);
-    let limits = limits.with_pieces(std::num::NonZeroU16::MAX);
+    let limits = limits.with_chunks(std::num::NonZeroU16::MAX);
     for name in ["hello", "umlauts", "uri", "poster", "records-1000", "opaque-1M", "ascii-1M", "wide-1M", "chunks-4000"] {
         let bytes = message(&folder, name);
         time("check", name, milliseconds, || assert!(checked(std::hint::black_box(&bytes), std::hint::black_box(&limits))));

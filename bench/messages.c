@@ -4,12 +4,12 @@
 #include <stdlib.h>
 #include <string.h>
 
-typedef struct { uint8_t *at; size_t length, room; } buffer;
+typedef struct { uint8_t *at; size_t length, buffer; } buffer;
 
 static void put(buffer *b, const void *bytes, size_t length) {
-    if (b->length + length > b->room) {
-        b->room = 2 * (b->length + length) + 64;
-        b->at = realloc(b->at, b->room);
+    if (b->length + length > b->buffer) {
+        b->buffer = 2 * (b->length + length) + 64;
+        b->at = realloc(b->at, b->buffer);
         if (b->at == NULL) abort();
     }
     memcpy(b->at + b->length, bytes, length);

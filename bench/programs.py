@@ -152,7 +152,7 @@ class Bench:
         for name, copy in (('face.rs', 'main.rs'), ('clock.rs', 'clock.rs'), ('hand.rs', 'hand.rs')):
             shutil.copy(HERE / name, crate / 'src' / copy)
         (crate / 'Cargo.toml').write_text('[package]\nname = "face"\nversion = "0.0.0"\nedition = "2021"\n\n[dependencies]\n'
-                                          'simbegyor-ndef = { path = "%s" }\n\n[workspace]\n%s' % (TOP / 'rust', profile))
+                                          'simbegyor-ndef = { path = "%s" }\n\n[workspace]\n%s' % (TOP / 'bindings/rust', profile))
         run(['cargo', 'build', '--release', '--offline', '--quiet'], cwd=crate,
             env={**os.environ, 'CARGO_TARGET_DIR': str(crate / 'target')})
         return [crate / 'target/release/face', self.messages]
@@ -166,15 +166,18 @@ class Bench:
         library = self.bin / 'libsimbegyor_ndef.rlib'
         features = [word for name in ('alloc', 'std', 'simd') for word in ('--cfg', 'feature="%s"' % name)]
         run(['rustc', '-O', '--edition', '2021', '--crate-type', 'rlib', '--crate-name', 'simbegyor_ndef', *features, *extern, '-o', library,
-             TOP / 'rust/src/lib.rs'])
+             TOP / 'bindings/rust/src/lib.rs'])
         program = self.bin / 'rust_simd'
         run(['rustc', '-O', '--edition', '2021', '--extern', 'simbegyor_ndef=%s' % library, '-L', self.bin, '-o', program, HERE / 'face.rs'])
         return [program, self.messages]
 
     def cpp(self):
-        compiler, program = needed(os.environ.get('CXX', 'c++'), 'g++'), self.bin / 'cpp'
+        compiler, program, today = needed(os.environ.get('CXX', 'c++'), 'g++'), self.bin / 'cpp', []
+        if 'ndef_default_limits' not in pathlib.Path(self.header(), 'ndef.h').read_text():
+            calls = (line.split('=') for line in (TOP / 'packaging/old_calls').read_text().splitlines() if line.startswith('ndef_'))
+            today = ['-Wl,--defsym=%s=%s' % (name, old) for old, name in calls]
         run([compiler, '-std=c++17', '-O2', '-Wall', '-Wextra', '-I%s' % self.header(), '-I%s' % (TOP / 'include'), HERE / 'face.cpp', self.archives()[0],
-             '-o', program])
+             *today, '-o', program])
         return [program, self.messages]
 
     def python(self):
@@ -200,7 +203,7 @@ class Bench:
         module.mkdir(exist_ok=True)
         for name in ('face.go', 'hand.go'):
             shutil.copy(HERE / name, module / name)
-        (module / 'go.mod').write_text('module face\n\ngo 1.19\n\nrequire simbegyor/ndef v0.0.0\n\nreplace simbegyor/ndef => %s\n' % (TOP / 'go'))
+        (module / 'go.mod').write_text('module face\n\ngo 1.19\n\nrequire simbegyor/ndef v0.0.0\n\nreplace simbegyor/ndef => %s\n' % (TOP / 'bindings/go'))
         run(['go', 'build', '-o', self.bin / 'face-go', '.'], cwd=module,
             env={**os.environ, 'GOFLAGS': '-mod=mod', 'GOPROXY': 'off', 'GOTOOLCHAIN': 'local'})
         return [self.bin / 'face-go', self.messages]
@@ -212,8 +215,7 @@ class Bench:
         return [node, HERE / 'page.mjs', TOP / 'out/web', self.messages]
 
     def commands(self):
-        made = ['out/commands/' + crate for crate in ('ndef', 'ndef_make', 'ndef_explain')]
-        if self.made_of() == 'crates' and subprocess.run(['make', '-q', '-C', TOP, 'NDEF_FROM=crates', *made], capture_output=True).returncode:
+        if self.made_of() == 'crates' and subprocess.run(['make', '-q', '-C', TOP, 'NDEF_FROM=crates', 'out/commands/ndef'], capture_output=True).returncode:
             raise Missing('the commands are not proved and built here')
         self.make('programs')
         return [TOP / 'out/bin/ndef']

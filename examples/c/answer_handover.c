@@ -5,13 +5,19 @@
 #include <stdio.h>
 #include <string.h>
 
+/* Names that the library had before version 0.4. */
+#if NDEF_VERSION_MAJOR == 0 && NDEF_VERSION_MINOR < 4
+#define ndef_default_limits ndef_usual_limits
+#define ndef_message_builder ndef_built
+#endif
+
 static uint8_t request[65536], payload[65536], answer[65536];
 
 int main(int count, char **words) {
     const ndef_writing well_known = { NDEF_TNF_WELL_KNOWN, 0, 0 }, media = { NDEF_TNF_MEDIA, 0, 0 };
     const ndef_alternative_writing active = { 0, 1, 1 };
     ndef_select_writing how = { { 0, 0 }, 0, 0, 0 };
-    ndef_built built = { 0, 0, 0 };
+    ndef_message_builder built = { 0, 0, 0 };
     ndef_part id = { 0, 0 };
     ndef_size length, needed;
     ndef_limits limits;
@@ -24,7 +30,7 @@ int main(int count, char **words) {
     }
     const uint8_t *type = (const uint8_t *)words[2];
     const ndef_size read = fread(request, 1, sizeof request, stdin), type_length = strlen(words[2]);
-    ndef_usual_limits(&limits);
+    ndef_default_limits(&limits);
     if (ndef_check(request, read, &limits, &checked) != NDEF_OK
         || ndef_payload(request, read, 0, payload, sizeof payload, &length) != NDEF_OK
         || ndef_request(payload, length, 0, &asked, &checked) != NDEF_OK) {

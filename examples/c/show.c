@@ -3,6 +3,12 @@
 
 #include <stdio.h>
 
+/* Names that the library had before version 0.4. */
+#if NDEF_VERSION_MAJOR == 0 && NDEF_VERSION_MINOR < 4
+#define ndef_default_limits ndef_usual_limits
+#define chunks pieces
+#endif
+
 static uint8_t image[65536];
 static uint8_t payload[65536];
 static uint8_t spelled[2 * 65536];
@@ -69,7 +75,7 @@ int main(int count, char **words) {
     fclose(file);
 
     ndef_limits limits;
-    ndef_usual_limits(&limits);
+    ndef_default_limits(&limits);
     ndef_checked checked;
     if (ndef_check(image, length, &limits, &checked) != NDEF_OK)
         return print_refusal(&checked);
@@ -84,7 +90,7 @@ int main(int count, char **words) {
         print_bytes(image + record.type_at, record.type_length);
         printf(" id ");
         print_bytes(image + record.id_at, record.id_length);
-        printf(" payload %llu in %llu: ", (unsigned long long)payload_length, (unsigned long long)record.pieces);
+        printf(" payload %llu in %llu: ", (unsigned long long)payload_length, (unsigned long long)record.chunks);
         print_payload(ndef_kind(image, checked.place, &record, NDEF_KIND_OTHER), payload, payload_length);
         putchar('\n');
     }
