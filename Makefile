@@ -40,7 +40,7 @@ LIBDIR ?= $(PREFIX)/lib
 PYTHON ?= python3
 PYTHONDIR ?= $(shell packaging/python_folder $(PYTHON) $(PREFIX))
 # The interface of the shared library: another number where a program must be linked anew.
-ABI := 0
+ABI := 1
 MAINTAINER ?= The Simbegyor authors <simbegyor@example.org>
 ifndef NDEF_FROM
 NDEF_FROM := $(shell packaging/made_of)
@@ -87,9 +87,6 @@ fish_completions := $(wildcard packaging/share/fish/*)
 shared := -shared -Wl,-z,defs -Wl,-z,relro -Wl,-z,now
 whole = -Wl,--whole-archive $(1) -Wl,--no-whole-archive
 hwcaps := glibc-hwcaps/x86-64-v2
-comma := ,
-# The names of calls in release 0.3.0, for what is linked with it, where the library has others.
-old_calls = $(if $(filter ndef_default_limits,$(calls)),$(patsubst %,-Wl$(comma)--defsym=%,$(shell sed '/^\#/d' packaging/old_calls)))
 fill = umask 022 && packaging/fill PREFIX=$(PREFIX) LIBDIR=$(LIBDIR) VERSION=$(VERSION) ABI=$(ABI) PACKAGE_INIT= \
     INCLUDE=$(shell realpath -m --relative-to=$(LIBDIR) $(PREFIX)/include)
 # The machine of the C compiler.
@@ -97,13 +94,13 @@ machine := $(or $(shell $(CC) -dumpmachine 2>/dev/null),$(shell uname -m))
 CROSS_CC ?= aarch64-linux-gnu-gcc
 
 # What all is made of: the program, the headers for C with the description of the interface, and the archives, one for
-# every x86-64 and on x86-64 a faster one. Releases before 0.3.0 have no description.
+# every x86-64 and on x86-64 a faster one.
 ifeq ($(NDEF_FROM),dist)
 made_program := out/dist/ndef
 made_archive := out/dist/libndef.a
 made_faster := $(if $(filter-out %x32,$(filter x86_64% amd64%,$(machine))),out/dist/libndef-v2.a)
 header := dist/ndef.h
-description := $(wildcard dist/interface.json)
+description := dist/interface.json
 else
 made_program := out/commands/ndef
 made_archive := crates/ndef_c/out/libndef_c.a
@@ -111,7 +108,7 @@ made_faster := out/x86-64-v2/libndef.a
 header := include/ndef.h
 description := packaging/share/interface.json
 endif
-headers := $(wildcard $(dir $(header))ndef*.h include/ndef*.hpp)
+headers := $(addprefix $(dir $(header)),ndef.h ndef_names.h) include/ndef_0_3.h $(wildcard include/ndef*.hpp)
 faster := $(if $(made_faster),out/lib/libndef-v2.a)
 faster_library := $(if $(made_faster),out/lib/$(hwcaps)/$(notdir $(library)))
 
@@ -202,9 +199,9 @@ out/lib/libndef-v2.a: $(made_faster) out/from
 
 $(library): $(made_archive)
 $(faster_library): $(made_faster)
-$(library) $(faster_library): packaging/libsimbegyor-ndef.map packaging/old_calls out/from
+$(library) $(faster_library): packaging/libsimbegyor-ndef.map out/from
 	mkdir -p $(@D)
-	$(CC) $(LDFLAGS) $(shared) -Wl,--version-script=packaging/libsimbegyor-ndef.map $(old_calls) \
+	$(CC) $(LDFLAGS) $(shared) -Wl,--version-script=packaging/libsimbegyor-ndef.map \
 	    -Wl,-soname,libsimbegyor-ndef.so.$(ABI) -o $@ $(call whole,$(filter %.a,$^))
 
 out/aarch64-linux/libndef.so: out/aarch64-linux/libndef.a packaging/ndef.map
@@ -264,7 +261,7 @@ install-programs: programs
 install-library: library out/man3/simbegyor-ndef.3
 	install -d $(addprefix $(DESTDIR),$(PREFIX)/include $(LIBDIR)/pkgconfig $(cmake) $(PREFIX)/share/man/man3)
 	install -m 644 $(headers) $(DESTDIR)$(PREFIX)/include
-	$(if $(description),install -D -m 644 $(description) $(DESTDIR)$(PREFIX)/share/simbegyor-ndef/interface.json)
+	install -D -m 644 $(description) $(DESTDIR)$(PREFIX)/share/simbegyor-ndef/interface.json
 	install -m 644 out/lib/libndef.a $(faster) $(library) $(DESTDIR)$(LIBDIR)
 	$(if $(faster_library),install -d $(DESTDIR)$(LIBDIR)/$(hwcaps) && install -m 644 $(faster_library) $(DESTDIR)$(LIBDIR)/$(hwcaps) && \
 	    ln -sf $(notdir $(library)) $(DESTDIR)$(LIBDIR)/$(hwcaps)/libsimbegyor-ndef.so.$(ABI))

@@ -66,11 +66,9 @@ find_compiler() {
     stop "there is no C compiler ${CC:-cc} on the path: install one, as by 'apt install gcc', or name it with CC"
 }
 
-# Sets `commands` to the source of the commands for the machine of the compiler, and `faster` to that for x86-64-v2, which releases from
-# 0.3.0 on have, or to nothing.
+# Sets `commands` to the source of the commands for the machine of the compiler, and `faster` to that for x86-64-v2, or to nothing.
 find_commands() {
     faster=
-    [ ! -e "$top/dist/commands.c" ] || { commands=commands.c; return; }
     machine=$($cc -dumpmachine 2>/dev/null) || machine=$(uname -m)-$(uname -s)
     case $machine in
         x86_64*-linux-gnux32) ;;
