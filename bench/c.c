@@ -7,7 +7,6 @@
  * A time is the least of many runs, of processor time. */
 #include "timing.h"
 #include "ndef.h"
-#include "../test/c/since.h"
 #ifdef WITH_CALLGRIND
 #include <valgrind/callgrind.h>
 #else
@@ -54,9 +53,7 @@ static uint32_t copy(const message *m) {
 }
 
 static uint32_t record_at(const message *m) { ndef_record record; return ndef_record_at(m->at, m->length, 0, &record); }
-#if NDEF_VERSION_MAJOR > 0 || NDEF_VERSION_MINOR >= 4
 static uint32_t items(const message *m) { ndef_checked checked; ndef_item given[4]; return ndef_items(m->at, m->length, &limits, &checked, given, 4); }
-#endif
 static uint32_t payload(const message *m) { ndef_size count; return ndef_payload(m->at, m->length, 0, buffer, sizeof buffer, &count); }
 
 /* Calls of payloads. The message is a payload for them. */
@@ -134,9 +131,7 @@ static void count_all(const char *folder) {
         {"ndef_check of \"Hello\"", check, "hello"}, {"ndef_check of \"Gr\xC3\xBC\xC3\x9F" "e\"", check, "umlauts"}, {"ndef_check of a URI", check, "uri"},
         {"ndef_check of a poster", check, "poster"}, {"ndef_check of \"Hello\" without its last byte", check, "cut"},
         {"ndef_record_at of \"Hello\"", record_at, "hello"}, {"ndef_payload of \"Hello\"", payload, "hello"},
-#if NDEF_VERSION_MAJOR > 0 || NDEF_VERSION_MINOR >= 4
         {"ndef_items of \"Hello\"", items, "hello"}, {"ndef_items of a poster", items, "poster"},
-#endif
         {"ndef_check of 4000 chunks", check, "chunks-4000"}, {"4000 chunks in parts of 4096 bytes", feed, "chunks-4000"}};
     for (size_t i = 0; i < sizeof calls / sizeof *calls; i++) {
         message m = read_message(folder, calls[i].of);

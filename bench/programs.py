@@ -172,12 +172,9 @@ class Bench:
         return [program, self.messages]
 
     def cpp(self):
-        compiler, program, today = needed(os.environ.get('CXX', 'c++'), 'g++'), self.bin / 'cpp', []
-        if 'ndef_default_limits' not in pathlib.Path(self.header(), 'ndef.h').read_text():
-            calls = (line.split('=') for line in (TOP / 'packaging/old_calls').read_text().splitlines() if line.startswith('ndef_'))
-            today = ['-Wl,--defsym=%s=%s' % (name, old) for old, name in calls]
+        compiler, program = needed(os.environ.get('CXX', 'c++'), 'g++'), self.bin / 'cpp'
         run([compiler, '-std=c++17', '-O2', '-Wall', '-Wextra', '-I%s' % self.header(), '-I%s' % (TOP / 'include'), HERE / 'face.cpp', self.archives()[0],
-             *today, '-o', program])
+             '-o', program])
         return [program, self.messages]
 
     def python(self):

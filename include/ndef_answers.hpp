@@ -27,21 +27,6 @@
 #define NDEF_LIFETIMEBOUND
 #endif
 
-/// Release 0.3.0 of the library has other names for some calls, and for a member of ndef_record and of ndef_limits.
-#if NDEF_VERSION_MAJOR == 0 && NDEF_VERSION_MINOR < 4
-#define ndef_default_limits ndef_usual_limits
-#define ndef_refusal_message ndef_why
-#define ndef_field_warning ndef_field_remark
-#define ndef_record_warning ndef_record_remark
-#define ndef_normalize ndef_rewrite
-#define ndef_split_uri ndef_uri_view
-#define ndef_message_builder ndef_built
-#define NDEF_BUFFER_TOO_SMALL NDEF_NO_ROOM
-#define NDEF_CHUNKS_MEMBER pieces
-#else
-#define NDEF_CHUNKS_MEMBER chunks
-#endif
-
 namespace ndef {
 
 // ---- answers

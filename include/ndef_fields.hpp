@@ -30,16 +30,11 @@ struct field {
     field_name name = {};
 };
 
-// Release 0.2.0 of ndef.h doesn't declare this call.
-#if NDEF_VERSION_MAJOR > 0 || NDEF_VERSION_MINOR >= 3
-
 /// What is strange in a field of a message that is accepted, in a sentence of English, by its name and bytes, as
 /// ndef_field_warning writes it. None where nothing is known to be strange, and where the field has no name.
 inline std::optional<std::string> field_warning(const field &of) {
     return detail::said(ndef_field_warning, static_cast<std::uint32_t>(of.name), of.octets.data(), of.octets.size());
 }
-
-#endif
 
 /// The fields of the message with which some bytes begin, in order, as one call of ndef_fields gives them; of bytes that
 /// are refused, those before the refused one. Payloads are looked into: with NDEF_OPAQUE there are no fields.

@@ -47,7 +47,7 @@ public:
 
     /// The payload: in place if the record has one chunk, otherwise joined in the buffer.
     result<bytes> payload(buffer &joined) const noexcept {
-        if (told.NDEF_CHUNKS_MEMBER == 1) return whole.part(told.payload_at, told.payload_length);
+        if (told.chunks == 1) return whole.part(told.payload_at, told.payload_length);
         return detail::written(joined, [this](auto... words) { return join(words...); });
     }
 
@@ -74,7 +74,7 @@ public:
     }
 
     ndef_size payload_size() const noexcept { return told.payload_length; }
-    ndef_size chunks() const noexcept { return told.NDEF_CHUNKS_MEMBER; }
+    ndef_size chunks() const noexcept { return told.chunks; }
     bool is_last() const noexcept { return told.last != 0; }
 
     /// Where the record begins in the message, and where its parts lie.
@@ -157,9 +157,6 @@ private:
 
 // ---- why bytes are refused
 
-// Release 0.2.0 of ndef.h doesn't declare these calls.
-#if NDEF_VERSION_MAJOR > 0 || NDEF_VERSION_MINOR >= 3
-
 namespace detail {
 /// The sentence that a call of ndef.h writes: call(given.., memory, size, count). None where it writes none.
 template <class Call, class... Given> std::optional<std::string> said(Call call, const Given &...given) {
@@ -192,12 +189,7 @@ inline std::optional<std::string> record_warning(bytes of, ndef_size index) {
     return detail::said(ndef_record_warning, of.data(), of.size(), index);
 }
 
-#endif
-
 // ---- what may help, to a program
-
-// Release 0.3.0 of ndef.h doesn't declare ndef_find_hint.
-#if NDEF_VERSION_MAJOR > 0 || NDEF_VERSION_MINOR >= 4
 
 /// What a hint is about: NDEF_HINT_TLV, NDEF_HINT_ATTRIBUTES, ...
 using hint_kind = ::ndef_hint_number;
@@ -261,8 +253,6 @@ inline std::string found_hint::text() const {
     }
     return {};
 }
-
-#endif
 
 // ---- bytes that arrive in parts
 

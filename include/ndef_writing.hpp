@@ -317,9 +317,6 @@ private:
 
 // ---- in steps
 
-// Release 0.3.0 of ndef.h doesn't declare these calls.
-#if NDEF_VERSION_MAJOR > 0 || NDEF_VERSION_MINOR >= 4
-
 /// Where in its message a record is written.
 enum class position : std::uint32_t {
     middle = 0,
@@ -440,8 +437,6 @@ private:
     ndef_size before = 0, length = 0; ///< the bytes before this record, and all that are written
     std::optional<error> failed{};
 };
-
-#endif
 
 } // namespace ndef
 

@@ -1,5 +1,6 @@
 """What the test programs in Python share: they count their tests here, and end with `finish`, as those of test/harness.sh do."""
 import pathlib
+import re
 import shutil
 import subprocess
 import sys
@@ -36,6 +37,11 @@ def make(*targets):
     """Makes targets of the Makefile, as a test."""
     run = subprocess.run(['make', '-C', TOP, *targets], stdout=subprocess.PIPE, stderr=subprocess.STDOUT, text=True)
     count(f'make {" ".join(targets)}', run.returncode == 0, run.stdout, quiet=True)
+
+
+def release_of(text):
+    """The first two numbers of the release that a text names."""
+    return tuple(map(int, re.search(r'(\d+)\.(\d+)', text).groups()))
 
 
 def finish():

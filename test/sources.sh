@@ -26,9 +26,6 @@ over_dist() {
 # try_made NAME COMMAND..: a test of a page or a program that uses what make made in out/: `try`, or where that is of dist/ `over_dist`.
 try_made() { if [ "${NDEF_FROM:-$(cat "$top/out/from")}" = crates ]; then try "$@"; else over_dist "$@"; fi; }
 
-# today_names HEADER: words for the linker that give calls of the library today's names, where this is its header and of a release before 0.4.
-today_names() { grep -qw ndef_default_limits "$1" || sed -nE 's/^(ndef_\w+)=(ndef_\w+)$/-Wl,--defsym=\2=\1/p' "$top/packaging/old_calls"; }
-
 # The calls to the system in whose place test/fuzz/commands.c puts its own, as words for the compiler that links it.
 wrapped=()
 for call in read write isatty open close lseek statx; do wrapped+=("-Wl,--wrap=$call"); done

@@ -26,9 +26,6 @@ const (
 	HintStandard   HintKind = C.NDEF_HINT_STANDARD   // a reader of the standard profile accepts the bytes
 )
 
-// findsHints says whether the library has ndef_find_hint, which release 0.3.0 lacks.
-const findsHints = C.NDEF_VERSION_MAJOR > 0 || C.NDEF_VERSION_MINOR >= 4
-
 // A FoundHint says to a program what may help where bytes are refused.
 type FoundHint struct {
 	Kind   HintKind
@@ -45,7 +42,7 @@ func FindHint(bytes []byte) *FoundHint {
 }
 
 // FindHint returns what may help where the bytes are refused, by its kind and the place of a message. It is nil where the
-// method Hint returns no sentence, and with a library older than 0.4.0. The rest is as for Hint.
+// method Hint returns no sentence. The rest is as for Hint.
 func (options Options) FindHint(bytes []byte) (*FoundHint, error) {
 	var found C.ndef_found
 	limits := options.limits()

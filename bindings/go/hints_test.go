@@ -41,7 +41,7 @@ func TestHintsAreThoseOfTheTable(t *testing.T) {
 		switch {
 		case err != nil:
 			t.Errorf("%x: %v", row.input, err)
-		case row.wanted.Kind == 0 || !findsHints:
+		case row.wanted.Kind == 0:
 			if found != nil {
 				t.Errorf("%x: %v", row.input, found)
 			}
@@ -51,7 +51,7 @@ func TestHintsAreThoseOfTheTable(t *testing.T) {
 			kinds[found.Kind] = true
 		}
 	}
-	if len(kinds) != int(HintStandard) && findsHints {
+	if len(kinds) != int(HintStandard) {
 		t.Errorf("only %d kinds were tried", len(kinds))
 	}
 }
@@ -61,7 +61,7 @@ func TestHintsSayWhatToCall(t *testing.T) {
 	for _, row := range hintRows(t) {
 		text := row.wanted.String()
 		isSame := row.wanted.Kind == HintTerminator || row.wanted.Kind == HintCode || row.wanted.Kind <= HintFile && row.wanted.Length == 0
-		if row.wanted.Kind != 0 && findsHints && (text == Hint(row.input)) != isSame {
+		if row.wanted.Kind != 0 && (text == Hint(row.input)) != isSame {
 			t.Errorf("%x: %q, %q", row.input, text, Hint(row.input))
 		}
 	}
@@ -84,7 +84,7 @@ func TestHintsSayWhatToCall(t *testing.T) {
 
 func TestHintsByOptions(t *testing.T) {
 	reserved := []byte{0xD7, 0, 1, 'a'}
-	if found := FindHint(reserved); findsHints && (found == nil || found.Kind != HintStandard) {
+	if found := FindHint(reserved); found == nil || found.Kind != HintStandard {
 		t.Errorf("%v", found)
 	}
 	if found, err := (Options{Standard: true}).FindHint(reserved); found != nil || err != nil {

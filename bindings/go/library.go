@@ -5,8 +5,8 @@ import "C"
 
 import "unsafe"
 
-// minorVersion is the second number of the version of the library.
-const minorVersion = C.NDEF_VERSION_MINOR
+// version is the first two numbers of the version of the library, as one.
+const version = C.NDEF_VERSION_MAJOR<<8 | C.NDEF_VERSION_MINOR
 
 // first points to the first of the bytes.
 func first(bytes []byte) *C.uint8_t { return (*C.uint8_t)(unsafe.Pointer(pointer(bytes))) }

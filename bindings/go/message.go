@@ -12,7 +12,6 @@ import (
 	"fmt"
 	"math"
 	"sync"
-	"unsafe"
 )
 
 // TNF is a type name format (NDEF 1.0, 3.2.6).
@@ -65,8 +64,7 @@ type Limits struct {
 func DefaultLimits() Limits {
 	var limits C.ndef_limits
 	C.ndef_default_limits(&limits)
-	named := (*C.go_limits)(unsafe.Pointer(&limits))
-	return Limits{Payload: uint32(named.payload), Records: uint32(named.records), Chunks: uint32(named.chunks)}
+	return Limits{Payload: uint32(limits.payload), Records: uint32(limits.records), Chunks: uint32(limits.chunks)}
 }
 
 // Options say how messages are read. The zero value reads by the strict profile within the default limits.
@@ -84,9 +82,8 @@ func (options Options) limits() C.ndef_limits {
 	if chosen == nil {
 		chosen = &usual
 	}
-	named := C.go_limits{payload: C.uint32_t(chosen.Payload), records: C.uint32_t(chosen.Records),
+	return C.ndef_limits{payload: C.uint32_t(chosen.Payload), records: C.uint32_t(chosen.Records),
 		chunks: C.uint32_t(chosen.Chunks), flags: options.flags() | flag(options.Opaque)*C.NDEF_OPAQUE}
-	return *(*C.ndef_limits)(unsafe.Pointer(&named))
 }
 
 // flags are those for the calls that read a payload.

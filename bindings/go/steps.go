@@ -8,13 +8,8 @@ import (
 	"io"
 )
 
-// ErrOldLibrary is the error where the library is older than 0.4.0, which writes no records in steps.
-var ErrOldLibrary = errors.New("ndef: the library is older than 0.4.0, and writes no records in steps")
-
 // ErrPayloadLength is the error where the parts of a payload have fewer or more bytes than was said.
 var ErrPayloadLength = errors.New("ndef: the parts of the payload don't have the length that was said")
-
-const hasWriter = C.GO_HAS_WRITER == 1
 
 // steps are a record that is written in steps.
 type steps struct {
@@ -60,8 +55,6 @@ type MessageReader struct {
 func (message *Message) Reader(form Form) *MessageReader {
 	reader := &MessageReader{records: message.Records, form: form}
 	switch {
-	case !hasWriter:
-		reader.err = ErrOldLibrary
 	case len(message.Records) == 0:
 		reader.err = unwritable("a message", "it has no record")
 	case !form.Unchecked:
@@ -76,7 +69,7 @@ func (message *Message) WriteTo(to io.Writer) (int64, error) {
 }
 
 // Read reads the next bytes of the message, as many as there are and fit. The error is as that of EncodeAs, in place of the bytes from the
-// refused one on, or ErrOldLibrary; io.EOF after the message.
+// refused one on; io.EOF after the message.
 func (reader *MessageReader) Read(buffer []byte) (int, error) {
 	filled := 0
 	for filled < len(buffer) && reader.err == nil {
@@ -152,12 +145,9 @@ type RecordWriter struct {
 }
 
 // NewRecordWriter writes the head, the type and the id of a record, and then record.Payload, with which the payload begins. The payload
-// has length bytes in all. The options of the form aren't used. The error is ErrOldLibrary, that the record has no spelling, as of a
-// payload of more than 4294967295 bytes, ErrPayloadLength, or that of the writer.
+// has length bytes in all. The options of the form aren't used. The error is that the record has no spelling, as of a payload of more
+// than 4294967295 bytes, ErrPayloadLength, or that of the writer.
 func NewRecordWriter(to io.Writer, record Record, length int64, position Position, form Form) (*RecordWriter, error) {
-	if !hasWriter {
-		return nil, ErrOldLibrary
-	}
 	made := &RecordWriter{to: to, steps: record.begun(uint64(length), form, position)}
 	if made.steps == nil {
 		return nil, unwritable("a record", "its type doesn't fit its type name format, or a part is too long")

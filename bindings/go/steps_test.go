@@ -10,21 +10,6 @@ import (
 	"testing/iotest"
 )
 
-// needsWriter leaves out a test where the library is a release that writes no records in steps, and tests that it says so.
-func needsWriter(t *testing.T) {
-	if hasWriter {
-		return
-	}
-	message := &Message{Records: []Record{{}}}
-	if count, err := message.WriteTo(io.Discard); count != 0 || err != ErrOldLibrary {
-		t.Error(count, err)
-	}
-	if writer, err := NewRecordWriter(io.Discard, Record{}, 0, Only, Form{}); writer != nil || err != ErrOldLibrary {
-		t.Error(writer, err)
-	}
-	t.Skip(ErrOldLibrary)
-}
-
 func randomBytes(dice *rand.Rand, most int) []byte {
 	made := make([]byte, dice.Intn(most+1))
 	dice.Read(made)
@@ -94,7 +79,6 @@ func inParts(t *testing.T, record Record, form Form, position Position, dice *ra
 }
 
 func TestStepsAreWhatIsWrittenAtOnce(t *testing.T) {
-	needsWriter(t)
 	dice := rand.New(rand.NewSource(9))
 	for round := 0; round < 100000; round++ {
 		message := &Message{Records: make([]Record, 1+dice.Intn(4))}
@@ -120,7 +104,6 @@ func TestStepsAreWhatIsWrittenAtOnce(t *testing.T) {
 }
 
 func TestReadersOfMessages(t *testing.T) {
-	needsWriter(t)
 	message := &Message{Records: []Record{{TNF: WellKnown, Type: "T", Payload: []byte("\x02enHello")}, {TNF: Unknown, Payload: make([]byte, 70000)}}}
 	whole, err := message.Encode()
 	if err != nil {
@@ -155,7 +138,6 @@ func (writer *failingWriter) Write(part []byte) (int, error) {
 }
 
 func TestStepsOfWhatIsRefused(t *testing.T) {
-	needsWriter(t)
 	for name, want := range refusedRecords {
 		message := &Message{Records: []Record{{TNF: Media, Type: "a/b", ID: "x"}, want.record}}
 		unchecked, err := message.EncodeAs(Form{Unchecked: true})
@@ -207,7 +189,6 @@ func TestStepsOfWhatIsRefused(t *testing.T) {
 }
 
 func TestPayloadsOfAnotherLength(t *testing.T) {
-	needsWriter(t)
 	var to bytes.Buffer
 	begin := func(payload string, length int64) (*RecordWriter, error) {
 		to.Reset()
@@ -255,7 +236,6 @@ func TestPayloadsOfAnotherLength(t *testing.T) {
 }
 
 func TestErrorsOfWriters(t *testing.T) {
-	needsWriter(t)
 	failing := errors.New("no cable")
 	if writer, err := NewRecordWriter(&failingWriter{2, failing}, Record{TNF: Unknown}, 9, Only, Form{}); writer != nil || err != failing {
 		t.Error(err)

@@ -106,8 +106,6 @@ export class Ndef {
 
     /** Every call of ndef.h by its name: addresses and numbers are numbers. */
     readonly calls: Record<string, (...given: (number | bigint)[]) => number>;
-    /** The names of the calls that the library lacks, as one of an older release does; they throw an error. */
-    readonly lacks: ReadonlySet<string>;
     readonly memory: WebAssembly.Memory;
 
     check(bytes: Bytes, options?: Limits): Checked;

@@ -8,7 +8,7 @@
 // lists. Places and lengths count bytes. Bytes are an ArrayBuffer or a view of one, of which its own bytes count. Anything else is a TypeError,
 // as is a limit, a flag or a place that is no number. Numbers out of range are a RangeError. Characters are a string, or bytes in UTF-8.
 import { Shelf, characters, joined, octets, utf8, whole } from "./given.js";
-import { byNames, taking, wide } from "./calling.js";
+import { taking, wide } from "./calling.js";
 import { CALLS, FLAG, HINT, KIND, LAYOUT, STATUS } from "./interface.js";
 import { FORM, Item } from "./item.js";
 import { Memory, countBelow, structOf, wordsOf } from "./memory.js";
@@ -16,6 +16,7 @@ import { Memory, countBelow, structOf, wordsOf } from "./memory.js";
 const OUT = 64, WHY = 256, COUNT = 320, STATE = 512; // where the structs of an answer lie in the memory for them; the limits lie at 0
 const NAME = 80, SENTENCE = 192; // memory for a name or the sentence of a reason, which has at most 70 bytes, and for a sentence about some bytes
 const U32_MOST = 2 ** 32 - 1;
+const MAJOR = 1; // the first number of the version of the library for which this file is made
 const ROWS = 1024; // items for which there is memory at first: as many as a message has records within the usual limits
 
 const KINDS = KIND, HINTS = HINT, [RECORD, TEXT, CHECKED, ITEM, WRITER] = ["record", "text_parts", "checked", "item", "writer"].map((name) => wordsOf(LAYOUT[name]));
@@ -70,21 +71,19 @@ export class Ndef {
     #memory; // the same with what is laid there and read
     #usual;
     #status; // of the last call for a record
-    #itemsIn; // the call of the library that writes items, or what stands in for it
     #fieldNames = new Map();
     #reasons = new Map();
     #sentences = new Map();
     #prefixes = new Map();
 
-    constructor(given) {
-        const exported = byNames(given);
+    constructor(exported) {
         this.memory = exported.memory;
         this.#direct = exported;
-        this.calls = Object.fromEntries(Object.entries(CALLS).map(([name, types]) => [name, taking(name, exported[name], types)]));
-        this.lacks = new Set(Object.keys(CALLS).filter((name) => exported[name] === undefined));
+        this.calls = Object.fromEntries(Object.entries(CALLS).map(([name, types]) => [name, taking(exported[name], types)]));
+        const version = this.version();
+        if (version[0] !== MAJOR) throw new Error(`ndef.js needs the library of version ${MAJOR}.0.0, or a later ${MAJOR}; this is ${version.join(".")}`);
         this.base = (Number(exported.__heap_base.value) + 15) & ~15;
         this.#memory = new Memory(exported.memory, this.base);
-        this.#itemsIn = exported.ndef_items ?? ((...given) => this.#itemsByWalk(...given));
         this.#usual = this.defaultLimits();
     }
 
@@ -102,7 +101,7 @@ export class Ndef {
         this.#layLimits(options);
         for (let rows = ROWS; ;) {
             this.#memory.reach(array + ITEM_SIZE * rows);
-            const answer = this.#checked(this.#inRange(this.#itemsIn(at, wide(length), this.base, this.base + OUT, array, wide(rows))), OUT);
+            const answer = this.#checked(this.#inRange(this.#direct.ndef_items(at, wide(length), this.base, this.base + OUT, array, wide(rows))), OUT);
             if (answer.status !== STATUS.BUFFER_TOO_SMALL) {
                 answer.items = answer.status === STATUS.OK
                     ? this.#itemsAt(array, answer.records, copy ?? this.#memory.bytes(at, answer.place), options?.flags ?? 0) : null;
@@ -655,16 +654,6 @@ export class Ndef {
             type: this.#memory.bytes(at + typeAt, typeLength), id: this.#memory.bytes(at + idAt, idLength),
             payload: chunks > 1 ? this.#joined(at, length, place, at + length) : this.#memory.bytes(at + payloadAt, payloadLength),
         };
-    }
-
-    // What ndef_items does, by a check and a walk, where the library lacks that call. No item has a form then.
-    #itemsByWalk(at, size, limits, out, array, rows) {
-        const status = this.#direct.ndef_check(at, size, limits, out), told = this.#memory.words.slice(out >> 2, (out + LAYOUT.checked.size) >> 2);
-        if (status !== STATUS.OK) return status;
-        if (told[CHECKED.records] > rows) return STATUS.BUFFER_TOO_SMALL;
-        this.#walk(at, wide(told[CHECKED.place]), KIND.OTHER, array);
-        this.#memory.words.set(told, out >> 2);
-        return status;
     }
 
     // Writes an item for each record of bytes that lie at an address, without a form, to an array after them. Answers their number.

@@ -69,18 +69,17 @@ function buttonsOf(ndef, bytes, found) {
     return [" ", button];
 }
 
-// What may help where the bytes are refused: a sentence, and a button where it names a place. The library of release 0.3.0 has a sentence alone.
+// What may help where the bytes are refused: a sentence, and a button where it names a place.
 function hintOf(ndef, bytes, options) {
-    if (ndef.lacks.has("ndef_find_hint")) return [ndef.hint(bytes, options)].filter((text) => text !== null);
     const found = ndef.findHint(bytes, options);
     return found === null ? [] : [hintText(found, WORDS), ...buttonsOf(ndef, bytes, found)];
 }
 
 // What the library says of bytes that are refused: what was wanted, and what may help. The place in a hint counts from where
-// the bytes begin, so there is a hint for the first message alone. The library of an older release says nothing.
+// the bytes begin, so there is a hint for the first message alone.
 function remarksOf(ndef, bytes, messages, options) {
     const last = messages[messages.length - 1];
-    if (last.answer.status !== Ndef.REFUSED || ndef.lacks.has("ndef_hint")) return [];
+    if (last.answer.status !== Ndef.REFUSED) return [];
     const why = ndef.why(bytes.subarray(last.at), options);
     const wanted = why === null || why === ndef.reasonSentence(last.answer.reason) ? [] : [why];
     return [wanted, last.at === 0 ? hintOf(ndef, bytes, options) : []].filter((parts) => parts.length > 0);

@@ -157,10 +157,9 @@ function remarkRow(text) {
     return element("tr", { kind: "remark" }, element("td", { colspan: String(FIELD_COLUMNS.length), text }));
 }
 
-// What is strange in a field of an accepted message, or null. The library of an older release has no warnings.
+// What is strange in a field of an accepted message, or null.
 function remarkOnField(ndef, { answer, bytes }, { at, length, name }) {
-    if (answer.status !== Ndef.OK || ndef.lacks.has("ndef_field_warning")) return null;
-    return ndef.fieldWarning(name, bytes.subarray(at, at + length));
+    return answer.status === Ndef.OK ? ndef.fieldWarning(name, bytes.subarray(at, at + length)) : null;
 }
 
 // Work that lists the fields of the messages one after another, as a table, up to the refused byte. A remark on a field stands below it.

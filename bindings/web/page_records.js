@@ -71,9 +71,9 @@ function payloadCell(record) {
     return [`${plural(record.payloadLength, "byte")}${chunks}`, element("br"), bytes];
 }
 
-// What is strange in a record of an accepted message beside its others, or null. The library of an older release has no warnings.
+// What is strange in a record of an accepted message beside its others, or null.
 function remarkOnRecord(ndef, { bytes, answer }, { number, depth }) {
-    if (depth > 0 || answer.status !== Ndef.OK || answer.records > MOST_COMPARED || ndef.lacks.has("ndef_record_warning")) return null;
+    if (depth > 0 || answer.status !== Ndef.OK || answer.records > MOST_COMPARED) return null;
     return ndef.recordWarning(bytes, number - 1);
 }
 

@@ -63,7 +63,7 @@ class Check {
     #refusal({ place, reason }, { tnf, type, id, payload }, index) {
         const calls = library(), flags = Ndef.WRITE_FIRST | Ndef.WRITE_LAST;
         const alone = payload === undefined ? null : calls.writeRecord({ tnf, type, id, payload, flags }).bytes;
-        const isSame = alone !== null && !calls.lacks.has("ndef_refusal_message") && calls.check(alone, this.#how).reason === reason;
+        const isSame = alone !== null && calls.check(alone, this.#how).reason === reason;
         const sentence = (isSame ? calls.why(alone, this.#how) : null) ?? calls.reasonSentence(reason);
         return new NdefError(place - this.#begun, reason, calls.reasonName(reason), sentence, index);
     }

@@ -283,10 +283,10 @@ export function messageFor(source) {
 
 // The error for a message that was written, of the answer of the check that refuses it. `parts` are the bytes of its records.
 function refusalOf(bytes, parts, how, { place, reason }) {
-    const calls = library(), wanted = calls.lacks.has("ndef_refusal_message") ? null : calls.why(bytes, how);
+    const calls = library(), sentence = calls.why(bytes, how) ?? calls.reasonSentence(reason);
     let record = 0, begin = 0;
     while (record < parts.length - 1 && begin + parts[record].length <= place) begin += parts[record++].length;
-    return new NdefError(place - begin, reason, calls.reasonName(reason), wanted ?? calls.reasonSentence(reason), record);
+    return new NdefError(place - begin, reason, calls.reasonName(reason), sentence, record);
 }
 
 // The bytes of a message: of a NDEFMessage, of Web NFC's, or of what makes one there. Each record has one chunk. Throws NdefError where

@@ -11,7 +11,7 @@ static void print_tag(const uint8_t *bytes, ndef_size length) {
     ndef_checked checked, why;
     ndef_record record;
     ndef_size size, count;
-    ndef_usual_limits(&limits);
+    ndef_default_limits(&limits);
     if (ndef_check(bytes, length, &limits, &checked) != NDEF_OK) {
         printf("refused at %lu: %s\n", (unsigned long)checked.place, ndef_reason_text(checked.reason));
         return;

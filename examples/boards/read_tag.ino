@@ -9,7 +9,7 @@ static void printTag(const uint8_t *bytes, ndef_size length) {
   ndef_checked checked, why;
   ndef_record record;
   ndef_size size, count;
-  ndef_usual_limits(&limits);
+  ndef_default_limits(&limits);
   if (ndef_check(bytes, length, &limits, &checked) != NDEF_OK) {
     Serial.print("refused: ");
     Serial.println(ndef_reason_text(checked.reason));

@@ -5,12 +5,6 @@
 #include <stdio.h>
 #include <string.h>
 
-/* Names that the library had before version 0.4. */
-#if NDEF_VERSION_MAJOR == 0 && NDEF_VERSION_MINOR < 4
-#define ndef_default_limits ndef_usual_limits
-#define ndef_message_builder ndef_built
-#endif
-
 static uint8_t request[65536], payload[65536], answer[65536];
 
 int main(int count, char **words) {

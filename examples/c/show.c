@@ -3,12 +3,6 @@
 
 #include <stdio.h>
 
-/* Names that the library had before version 0.4. */
-#if NDEF_VERSION_MAJOR == 0 && NDEF_VERSION_MINOR < 4
-#define ndef_default_limits ndef_usual_limits
-#define chunks pieces
-#endif
-
 static uint8_t image[65536];
 static uint8_t payload[65536];
 static uint8_t spelled[2 * 65536];

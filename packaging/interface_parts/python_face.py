@@ -26,11 +26,6 @@ Reference = Any
 '''
 
 CALLS = '''
-# The names of calls in release 0.3.0, where they are others.
-OLD_NAMES = {
-    'default_limits': 'usual_limits', 'refusal_message': 'why', 'field_warning': 'field_remark', 'record_warning': 'record_remark',
-}
-
 
 class _Loaded:
     """The calls of a library that ctypes has loaded, each looked up when it is first asked for."""
@@ -39,12 +34,7 @@ class _Loaded:
         self._loaded = loaded
 
     def __getattr__(self, name: str) -> Any:
-        try:
-            call = getattr(self._loaded, 'ndef_' + name)
-        except AttributeError:
-            if name not in OLD_NAMES:
-                raise
-            call = getattr(self._loaded, 'ndef_' + OLD_NAMES[name])
+        call = getattr(self._loaded, 'ndef_' + name)
         call.restype = None if name in WITHOUT_RESULT else u32
         setattr(self, name, call)
         return call
@@ -97,7 +87,7 @@ def call(given: Call) -> str:
 
 
 def text(interface: Interface) -> str:
-    parts: List[str] = [HEAD]
+    parts: List[str] = [HEAD, f'# The first number of the version of ndef.h.\nVERSION_MAJOR = {interface.version[0]}\n']
     for group in interface.groups:
         parts.append(f'# {group.text}')
         parts += [f'{one.name.removeprefix("NDEF_")} = {one.number}' for one in group.constants]

@@ -43,7 +43,7 @@ REASONS: Tuple[Tuple[str, Dict[str, str]], ...] = (
     ('A refusal is an error of the language, so a status has no name there.', {
         'Python': 'status_name', 'Rust': 'status_name', 'Java': 'status_name', 'Go': 'status_name'}),
     ('The package has the version of the library that it brings or asks for.', {
-        'Python': 'version', 'Rust': 'version', 'Java': 'version', 'Go': 'version'}),
+        'Rust': 'version', 'Java': 'version', 'Go': 'version'}),
     ('A URI is given whole, with its prefix spelled out.', {
         'Python': 'split_uri', 'Rust': 'split_uri uri_prefix', 'JavaScript': 'split_uri', 'Java': 'split_uri'}),
     ('It puts a URI together of the prefix and the rest.', {'Go': 'uri'}),
@@ -60,6 +60,7 @@ REASONS: Tuple[Tuple[str, Dict[str, str]], ...] = (
     ('A program checks the payloads of its own types itself.', {
         face: 'check_layout' for face in ('C++', 'Rust', 'JavaScript', 'Java', 'Go')}),
     ('It calls the function that this call consists of, which gives the checker as a value.', {'Rust': 'begin'}),
+    ('A message is checked by the call that gives all its records.', {'Java': 'check'}),
 )
 
 
@@ -67,7 +68,7 @@ def source(face: str) -> str:
     """The code of a face, without comments and without what is generated."""
     text = '\n'.join(path.read_text() for pattern in SOURCES[face] for path in sorted(TOP.glob(pattern)))
     if face == 'Python':
-        return re.sub(r'_(?:long|short)\.(\w+)', r'ndef_\1', text)
+        return re.sub(r'\b(?:_long|_short|found)\.(\w+)', r'ndef_\1', text)
     return re.sub(r'/\*.*?\*/|//[^\n]*', '', text, flags=re.S)
 
 

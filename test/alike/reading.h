@@ -1,6 +1,6 @@
 /* Reads all of a message by the library for C, and gives a hash of all that it answers: two builds that give the same hashes of the same
  * messages answer alike. What is read has no effect on the next message. */
-#include "../c/since.h"
+#include "ndef.h"
 
 enum { MOST_BYTES = 1 << 14, MOST_PARTS = 1 << 12 };
 

@@ -2,7 +2,6 @@
  * hash of all that the calls answered and wrote. Two builds of the library that print the same lines answer alike.
  * `cases.h` is made by test/c/case_table. Without a C library (-ffreestanding), the caller has `put` and calls `answers`. */
 #include "ndef.h"
-#include "since.h"
 #include "cases.h"
 
 #ifndef ROUNDS
@@ -205,29 +204,20 @@ static void fill_fields(const uint8_t *bytes, ndef_size length, const ndef_limit
 }
 
 /* Why bytes are refused, what may help, and what is strange in fields and records. */
-#if IS_SINCE(0, 3)
 static void say_why(const uint8_t *bytes, ndef_size length, const ndef_limits *limits) {
     WRITTEN(200, ndef_refusal_message(bytes, length, limits, to, 40 + 8 * (length % 20), &count));
     WRITTEN(200, ndef_hint(bytes, length, limits, to, 60 + 8 * (length % 20), &count));
     WRITTEN(200, ndef_field_warning(length % 33, bytes, length, to, 40 + 8 * (length % 20), &count));
     WRITTEN(200, ndef_record_warning(bytes, length, length % 3, to, 40 + 8 * (length % 20), &count));
 }
-#else
-static void say_why(const uint8_t *bytes, ndef_size length, const ndef_limits *limits) { (void)bytes, (void)length, (void)limits; }
-#endif
 
 /* What may help, by numbers. */
-#if IS_SINCE(0, 4)
 static void find_hint(const uint8_t *bytes, ndef_size length, const ndef_limits *limits) {
     ndef_found found = { 77, 77, 77 };
     mix_status(ndef_find_hint(bytes, length, limits, &found)), mix(found.hint), mix(found.at), mix(found.length);
 }
-#else
-static void find_hint(const uint8_t *bytes, ndef_size length, const ndef_limits *limits) { (void)bytes, (void)length, (void)limits; }
-#endif
 
 /* All records of a message at once. */
-#if IS_SINCE(0, 4)
 static void list_records(const uint8_t *bytes, ndef_size length, const ndef_limits *limits) {
     static ndef_item items[ELEMENTS];
     const ndef_item mark = { 7, 7, 7, 7, 7, 7, 7, 7, 7, 7, 7, 7, 7, 7, 7, 7 };
@@ -258,10 +248,6 @@ static void lay_out(const uint8_t *bytes, ndef_size length) {
         mix_status(ndef_check_layout(bytes, length, fields, used, &out)), mix(out.place), mix(out.reason), mix(out.length_fits);
     }
 }
-#else
-static void list_records(const uint8_t *bytes, ndef_size length, const ndef_limits *limits) { (void)bytes, (void)length, (void)limits; }
-static void lay_out(const uint8_t *bytes, ndef_size length) { (void)bytes, (void)length; }
-#endif
 
 static void mix_text(const ndef_text_parts *text) {
     mix(text->language_at), mix(text->language_length), mix(text->text_at), mix(text->text_length), mix(text->utf16);
@@ -339,7 +325,6 @@ static void write_again(const uint8_t *bytes, const ndef_record *record) {
 }
 
 /* Writes it in steps, of parts and into buffers of a few bytes. */
-#if IS_SINCE(0, 4)
 static void write_in_steps(const uint8_t *bytes, const ndef_record *record) {
     const ndef_writing how = { record->tnf, (uint32_t)record->at % 9, record->payload_length % 7 };
     ndef_writer writer = { { 7, 7, 7 }, 7, 7, 7, 7, 7 };
@@ -352,9 +337,6 @@ static void write_in_steps(const uint8_t *bytes, const ndef_record *record) {
         mix(writer.taken), mix(writer.head);
     }
 }
-#else
-static void write_in_steps(const uint8_t *bytes, const ndef_record *record) { (void)bytes, (void)record; }
-#endif
 
 static void find(const uint8_t *bytes, ndef_size length, const ndef_record *record) {
     const ndef_size from[] = { 0, record->at };

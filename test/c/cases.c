@@ -2,7 +2,6 @@
  * Each goes through check, walk, payload and write, and in parts through feed; a line that fails is printed. */
 #include "ndef.h"
 #include "digits.h"
-#include "since.h"
 
 #include <stdio.h>
 #include <stdlib.h>
@@ -11,7 +10,7 @@
 /* The sizes, offsets and alignments are those of the library, on machines of 32 bits too. */
 typedef char limits_lie[sizeof(ndef_limits) == 16 && offsetof(ndef_limits, flags) == 12 ? 1 : -1];
 typedef char checked_lies[sizeof(ndef_checked) == 16 && offsetof(ndef_checked, records) == 8 ? 1 : -1];
-typedef char checker_lies[sizeof(ndef_checker) == (IS_SINCE(0, 4) ? 488 : 232) ? 1 : -1];
+typedef char checker_lies[sizeof(ndef_checker) == 488 ? 1 : -1];
 typedef char record_lies[sizeof(ndef_record) == 88 && offsetof(ndef_record, tnf) == 80 ? 1 : -1];
 typedef char text_lies[sizeof(ndef_text_parts) == 40 && offsetof(ndef_text_parts, utf16) == 32 ? 1 : -1];
 typedef char carrier_lies[sizeof(ndef_carrier_parts) == 40 && offsetof(ndef_carrier_parts, format) == 32 ? 1 : -1];

@@ -1,7 +1,6 @@
 /* Each field of each struct that a call writes, with a value that no other field has. */
 #include "ndef.h"
 #include "expect.h"
-#include "since.h"
 
 #include <string.h>
 

@@ -2,7 +2,6 @@
  * (NDEF 1.0, record layout and chunked payloads). */
 #include "ndef.h"
 #include "expect.h"
-#include "since.h"
 
 #include <string.h>
 

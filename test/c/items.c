@@ -1,13 +1,11 @@
 /* Random messages, changed and cut, by ndef_items: its answer is that of ndef_check, and each item has what ndef_record_at, ndef_kind,
  * ndef_text and ndef_split_uri say. The array is a block of its own, so that a sanitizer sees a write beyond it. */
 #include "ndef.h"
-#include "since.h"
 
 #include <stdio.h>
 #include <stdlib.h>
 #include <string.h>
 
-#if IS_SINCE(0, 4)
 enum { MOST = 8192, RECORDS = 8 };
 static uint8_t message[MOST];
 static uint64_t state = 88172645463325252u;
@@ -165,6 +163,3 @@ int main(int count, char **words) {
     printf("%llu taken, %llu refused, %llu texts, %llu URIs, %llu chunked\n", taken, refused, texts, uris, chunked);
     return 0;
 }
-#else
-int main(void) { return 0; }
-#endif

@@ -1,13 +1,11 @@
 /* Random layouts and payloads by ndef_check_layout: its answer is that of a search over all payloads of the layout, which knows only what
  * each field may hold. Where an octet is refused, some payload of the same length begins with the octets before it, and none with it. */
 #include "ndef.h"
-#include "since.h"
 
 #include <stdio.h>
 #include <stdlib.h>
 #include <string.h>
 
-#if IS_SINCE(0, 4)
 enum { MOST = 12, FIELDS = 4 };
 static uint64_t state = 88172645463325252u;
 static unsigned long long laid, refused, lengths, bad;
@@ -136,6 +134,3 @@ int main(int count, char **words) {
     printf("%llu payloads of their layouts, %llu refused, %llu of another length, %llu layouts that are none\n", laid, refused, lengths, bad);
     return 0;
 }
-#else
-int main(void) { return 0; }
-#endif

@@ -2,7 +2,6 @@
  * with one that is too small by one. VERSION_NUMBER is the version that the header names. */
 #include "ndef.h"
 #include "expect.h"
-#include "since.h"
 
 #include <string.h>
 
@@ -187,7 +186,7 @@ static void version(void) {
 }
 
 static void names(void) {
-    static const char *const texts[] = { "Ok", "Refused", IS_SINCE(0, 4) ? "BufferTooSmall" : "NoRoom", "BadArgument", "End", "More" };
+    static const char *const texts[] = { "Ok", "Refused", "BufferTooSmall", "BadArgument", "End", "More" };
     uint8_t buffer[15];
     ndef_size count;
     for (uint32_t status = 0; status < 6; status++) {
@@ -532,7 +531,6 @@ static void select_written(void) {
 
 /* ---- remarks */
 
-#if IS_SINCE(0, 3)
 /* Whether a call wrote this text to a buffer, or ended without a text (NULL). */
 static int wrote(uint32_t status, const uint8_t *buffer, ndef_size count, const char *text) {
     if (!text) return status == NDEF_END && count == 77;
@@ -594,9 +592,6 @@ static void remarks(void) {
     expect(ndef_field_warning(32, NULL, 0, buffer, sizeof buffer, &count) == NDEF_BAD_ARGUMENT && count == 25, "remarks: no such name");
     expect(ndef_field_warning(0, NULL, 0, buffer, sizeof buffer, &count) == NDEF_BAD_ARGUMENT && count == 25, "remarks: the name 0");
 }
-#else
-static void remarks(void) {}
-#endif
 
 int main(void) {
     make_message();

@@ -2,7 +2,6 @@
  * library writes to buffers. */
 #include "ndef.h"
 #include "expect.h"
-#include "since.h"
 
 #include <stdio.h>
 #include <string.h>
@@ -82,7 +81,7 @@ static void try_names(const struct names *names, const char *what) {
 static void try_strings(void) {
     const struct names reasons = { ndef_reason_name, ndef_reason_text, 1, 25, 16 };
     const struct names sentences = { ndef_reason_sentence, ndef_sentence_text, 1, 25, 70 };
-    const struct names statuses = { ndef_status_name, ndef_status_text, 0, 5, IS_SINCE(0, 4) ? 14 : 11 };
+    const struct names statuses = { ndef_status_name, ndef_status_text, 0, 5, 14 };
     const struct names of_fields = { ndef_field_name, ndef_field_text, 1, 31, 31 };
     try_names(&reasons, "the name of a reason is another");
     try_names(&sentences, "the sentence of a reason is another");

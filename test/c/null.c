@@ -1,6 +1,5 @@
 /* Where a length is 0 a pointer may be NULL: each call then answers as with another pointer. */
 #include "ndef.h"
-#include "since.h"
 
 #include <stdio.h>
 #include <string.h>
@@ -31,12 +30,10 @@ static void check_calls(int way, const uint8_t *none, uint8_t *buffer) {
     answer(way, ndef_payload(none, 0, 0, buffer, 0, &count));
     answer(way, ndef_reason_name(22, buffer, 0, &count));
     answer(way, ndef_reason_sentence(22, buffer, 0, &count));
-#if IS_SINCE(0, 3)
     answer(way, ndef_refusal_message(none, 0, &limits, buffer, 0, &count));
     answer(way, ndef_hint(none, 0, &limits, buffer, 0, &count));
     answer(way, ndef_field_warning(NDEF_FIELD_URI_REST, none, 0, buffer, 0, &count));
     answer(way, ndef_record_warning(none, 0, 0, buffer, 0, &count));
-#endif
     answer(way, ndef_link_at(none, 0, none, 0, 0, &link));
 }
 
@@ -120,7 +117,6 @@ static void more_calls(int way, const uint8_t *none, ndef_part *no_parts, ndef_l
     answer(way, ndef_title((const uint8_t *)"\xd1\1\1U\0", 5, none, 0, &text));
 }
 
-#if IS_SINCE(0, 4)
 /* The calls that give records, that look at a payload by its layout, that say what may help, and that write a record in steps. */
 static void item_calls(int way, const uint8_t *none, uint8_t *buffer) {
     const ndef_writing how = { NDEF_TNF_EMPTY, 0, 0 };
@@ -144,9 +140,6 @@ static void item_calls(int way, const uint8_t *none, uint8_t *buffer) {
     answer(way, ndef_find_hint(none, 0, &limits, &found));
     count = 9;
 }
-#else
-static void item_calls(int way, const uint8_t *none, uint8_t *buffer) { (void)way, (void)none, (void)buffer; }
-#endif
 
 /* The calls that give fields. */
 static void field_calls(int way, const uint8_t *none, ndef_field *no_fields, uint8_t *buffer) {

@@ -2,7 +2,6 @@
  * and the links of messages. */
 #include "ndef.h"
 #include "expect.h"
-#include "since.h"
 
 #include <string.h>
 

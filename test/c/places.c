@@ -2,7 +2,6 @@
  * 1.0, RTD URI 1.0, RTD Smart Poster 1.0 and Connection Handover 1.2 lay them out: their names and lengths, with a `>`
  * before those of a message within a payload. */
 #include "ndef.h"
-#include "since.h"
 
 #include <stdio.h>
 #include <stdlib.h>

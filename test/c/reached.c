@@ -3,7 +3,6 @@
  * outside their bytes, and payloads of more bytes than PAYLOAD_LENGTH can say (NDEF 1.0, 3.2.5). */
 #define _DEFAULT_SOURCE
 #include "ndef.h"
-#include "since.h"
 
 #include <stdio.h>
 #include <stdlib.h>

@@ -1,7 +1,6 @@
 /* Random messages there and back, fronts and single changes of them, and wild bytes, for a number of rounds. Each buffer is
  * a separate block, so that a sanitizer sees a write beyond it. */
 #include "ndef.h"
-#include "since.h"
 
 #include <stdio.h>
 #include <stdlib.h>

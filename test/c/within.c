@@ -1,7 +1,6 @@
 /* The payloads of the records within smart posters and handovers: each written, and read where a call reads it. */
 #include "ndef.h"
 #include "expect.h"
-#include "since.h"
 
 #include <string.h>
 

@@ -2,13 +2,11 @@
  * is what ndef_write_record writes of the whole payload, and a call that is refused changes nothing. Each buffer is a separate block, so that
  * a sanitizer sees a write beyond it. */
 #include "ndef.h"
-#include "since.h"
 
 #include <stdio.h>
 #include <stdlib.h>
 #include <string.h>
 
-#if IS_SINCE(0, 4)
 enum { NAME = 255, PAYLOAD = 600, MOST = 16384, LARGEST_BUFFER = 40 };
 typedef char writer_is_small[sizeof(ndef_writer) <= 128 ? 1 : -1];
 
@@ -149,17 +147,12 @@ static void wild_writer(void) {
     status = ndef_writer_next(&writer, bytes, writer.type_length, bytes, writer.id_length, bytes, 0, buffer, 0, &count);
     expect(status == NDEF_END || (status == NDEF_OK && count == 0), "a writer that a call left doesn't go on");
 }
-#endif
 
 int main(int argc, char **argv) {
-#if IS_SINCE(0, 4)
     long rounds = argc > 1 ? strtol(argv[1], NULL, 10) : 1000;
     for (long i = 0; i < rounds; i++) one_record(), wrong_record(), wild_writer();
     expect(steps > 0 && waits > 0 && chunked > 0 && refused > 0 && taken_wild > 0, "some kind of call was never made");
     printf("%llu calls of %ld records, %llu of them in chunks; %llu calls refused, %llu of wild writers taken\n", steps, rounds, chunked, refused,
            taken_wild);
-#else
-    (void)argc, (void)argv;
-#endif
     return 0;
 }

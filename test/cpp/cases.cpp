@@ -159,7 +159,7 @@ static bool is_answered(const std::vector<std::string> &fields, bool is_standard
         const auto number = static_cast<std::uint32_t>(std::stoul(words[at + 1]));
         if (words[at] == "payload") limits.payload = number;
         if (words[at] == "records") limits.records = number;
-        if (words[at] == "pieces") limits.NDEF_CHUNKS_MEMBER = number;
+        if (words[at] == "pieces") limits.chunks = number;
     }
     const auto input = from_hex(fields[BYTES]);
     const auto told = split(fields[ANSWER], ' ');

@@ -240,7 +240,7 @@ template <class View> static void read_as(const ndef::record &one, ndef::bytes p
 
 /// A record as ndef_record_at tells it, read as every type.
 static void record(ndef::bytes whole, const ndef::record &one, const ndef_record &c) {
-    LOOK(one.place() == c.at && one.parts().end == c.end && one.is_last() == (c.last == 1) && one.chunks() == c.NDEF_CHUNKS_MEMBER);
+    LOOK(one.place() == c.at && one.parts().end == c.end && one.is_last() == (c.last == 1) && one.chunks() == c.chunks);
     LOOK(one.format() == static_cast<ndef::tnf>(c.tnf) && one.payload_size() == c.payload_length);
     LOOK(is_part(one.type(), whole, c.type_at, c.type_length) && is_part(one.id(), whole, c.id_at, c.id_length));
     LOOK(one.is(one.format(), one.type()) && one.is(one.type()) == (c.tnf == NDEF_TNF_WELL_KNOWN));
@@ -252,7 +252,7 @@ static void record(ndef::bytes whole, const ndef::record &one, const ndef_record
     ndef::buffer buffer(first_buffer);
     const auto told = one.payload(buffer);
     LOOK(told && *told == payload && one.payload_string() == payload.text());
-    LOOK(one.payload().has_value() == (c.NDEF_CHUNKS_MEMBER == 1 || count == 0));
+    LOOK(one.payload().has_value() == (c.chunks == 1 || count == 0));
     LOOK(one.chunks() == 1 ? buffer.size() == sizeof first_buffer : buffer.size() == sizeof first_buffer - payload.size());
     LOOK(one.payload() ||
          (one.payload().error().what == NDEF_BUFFER_TOO_SMALL && one.payload().error().needed == payload.size()));
@@ -388,13 +388,11 @@ static void sentences(ndef::bytes whole, const ndef_limits &limits) {
     };
     LOOK(same(ndef::why(whole, limits), ndef_refusal_message, whole.data(), whole.size(), &limits));
     LOOK(same(ndef::hint(whole, limits), ndef_hint, whole.data(), whole.size(), &limits));
-#if NDEF_VERSION_MAJOR > 0 || NDEF_VERSION_MINOR >= 4
     ndef_found found = {};
     const bool is_found = ndef_find_hint(whole.data(), whole.size(), &limits, &found) == NDEF_OK;
     const auto hint = ndef::find_hint(whole, limits);
     LOOK(hint.has_value() == is_found);
     LOOK(!hint || (hint->kind == static_cast<ndef::hint_kind>(found.hint) && hint->place == found.at && hint->size == found.length));
-#endif
     for (ndef::field one : ndef::fields(whole, limits)) {
         const auto name = static_cast<std::uint32_t>(one.name);
         LOOK(same(ndef::field_warning(one), ndef_field_warning, name, one.octets.data(), one.octets.size()));
@@ -430,7 +428,7 @@ static void line(const octets &bytes) {
     for (int round = 0; round < 12; round++) {
         ndef::limits limits;
         limits.flags = round % 3 == 1 ? NDEF_STANDARD : round % 3 == 2 ? NDEF_OPAQUE : 0;
-        if (round % 4 == 3) limits.records = 2, limits.NDEF_CHUNKS_MEMBER = 2, limits.payload = 9;
+        if (round % 4 == 3) limits.records = 2, limits.chunks = 2, limits.payload = 9;
         message(changed, limits);
         if (bytes.empty() || bytes.size() > 4096) return;
         changed = bytes;
@@ -445,7 +443,7 @@ static void input(const octets &bytes) {
     if (bytes.size() < 2) return;
     ndef::limits limits;
     limits.flags = bytes[0] & 3u;
-    if (bytes[0] & 4) limits.records = 2, limits.NDEF_CHUNKS_MEMBER = 2, limits.payload = 16;
+    if (bytes[0] & 4) limits.records = 2, limits.chunks = 2, limits.payload = 16;
     message(ndef::bytes(bytes).from(2), limits);
 }
 

@@ -220,8 +220,6 @@ static void sentences() {
     for (const ndef::limits &limits : {opaque, none}) LOOK(!ndef::why(late, limits) && !ndef::hint(after, limits));
 }
 
-/// The kinds and the places are those of test/faces/hints.txt. Release 0.3.0 has no such call.
-#if NDEF_VERSION_MAJOR > 0 || NDEF_VERSION_MINOR >= 4
 /// Whether the hint for some bytes has these numbers, and a text that is the sentence of the library where that names no command.
 static bool hints(const octets &of, ndef::hint_kind kind, ndef_size place, ndef_size size, bool is_plain) {
     const std::optional<ndef::found_hint> found = ndef::find_hint(of);
@@ -229,6 +227,7 @@ static bool hints(const octets &of, ndef::hint_kind kind, ndef_size place, ndef_
            (found->text() == ndef::hint(of)) == is_plain && found->text().find("--") == std::string::npos;
 }
 
+/// The kinds and the places are those of test/faces/hints.txt.
 static void found_hints() {
     const auto spelled = [](const char *text) { return octets(text, text + std::char_traits<char>::length(text)); };
     const octets message = {0xd1, 1, 2, 'T', 0, 'a'}, attributes = {16, 4, 1, 0, 13, 0, 0, 0, 0, 0, 1, 0, 0, 6, 0, 41};
@@ -255,9 +254,6 @@ static void found_hints() {
     LOOK(!ndef::find_hint(message) && !ndef::find_hint(octets()) && !ndef::find_hint(reserved, standard));
     LOOK(ndef::found_hint{}.text().empty());
 }
-#else
-static void found_hints() {}
-#endif
 
 /// The remarks are those of docs/EXPLAIN.md and test/explain/rows.txt.
 static void remarks() {
@@ -322,7 +318,7 @@ static void defaults() {
     LOOK(ndef::message::check(reserved).error().why == NDEF_REASON_URI_CODE &&
          !ndef::uri::read(ndef::bytes(reserved).from(4)));
     ndef::limits limits;
-    LOOK(limits.payload == 1048576 && limits.records == 1024 && limits.NDEF_CHUNKS_MEMBER == 4096 && limits.flags == 0);
+    LOOK(limits.payload == 1048576 && limits.records == 1024 && limits.chunks == 4096 && limits.flags == 0);
     limits.flags = NDEF_STANDARD;
     const auto message = *ndef::message::check(reserved, limits);
     LOOK(!message.begin()->as<ndef::uri>() && message.begin()->as<ndef::uri>(ndef::profile::standard)->str() == "a");

@@ -201,7 +201,7 @@ inline ndef::limits random_limits(dice &dice) {
     limits.flags = (dice.below(2) ? NDEF_STANDARD : 0) | (dice.below(4) ? 0 : NDEF_OPAQUE);
     if (dice.below(6) == 0) limits.payload = static_cast<std::uint32_t>(1 + dice.below(20));
     if (dice.below(6) == 0) limits.records = static_cast<std::uint32_t>(1 + dice.below(3));
-    if (dice.below(6) == 0) limits.NDEF_CHUNKS_MEMBER = static_cast<std::uint32_t>(1 + dice.below(3));
+    if (dice.below(6) == 0) limits.chunks = static_cast<std::uint32_t>(1 + dice.below(3));
     return limits;
 }
 

@@ -1,6 +1,6 @@
 // Messages that are written in steps, and records whose payload is given in parts: they have the bytes that write_message
 // writes at once, whatever the sizes of the buffers and the parts, and the same errors. The word is the number of random
-// messages. A release of the library may lack the calls: VERSION_NUMBER is its version, where that is not the header's. Prints what fails.
+// messages. Prints what fails.
 #include "random.hpp"
 
 #include <cstdio>
@@ -13,8 +13,6 @@ static void test(const char *name, bool is_true) {
     is_true ? passed++ : failed++;
     if (!is_true) std::printf("FAILED: %s\n", name);
 }
-
-#if !defined VERSION_NUMBER || VERSION_NUMBER >= 0x400
 
 using namespace std::literals;
 
@@ -186,12 +184,3 @@ int main(int, char **words) {
     std::printf("%d passed, %d failed\n", passed, failed);
     return failed != 0;
 }
-
-#else
-
-int main() {
-    test("the library is a release without the calls", true);
-    std::printf("%d passed, %d failed\n", passed, failed);
-}
-
-#endif

@@ -6,8 +6,8 @@ are those of the repository, and the commands of the page's `console` blocks, li
 what is wrong: a command that prints another thing than the page shows or that ends with another status than 0, and a program that no
 command names. The status is 1 where something is.
 
-Where the header ndef.h in `include` is of an older version than 0.4, a program whose first line says `since version 0.4` is left out, with the
-commands that name it, and the other programs in C get the names of today from test/c/since.h."""
+A program whose first line says `since version X.Y` is left out, with the commands that name it, where the header ndef.h in `include` is of an
+older version."""
 import os
 import pathlib
 import re
@@ -21,23 +21,23 @@ def blocks(text, language):
     return re.findall(rf'^```{language}\n(.*?)^```$', text, re.M | re.S)
 
 
-def is_header_older(folder):
-    """Whether the header is of an older version than 0.4."""
-    header = folder / 'include/ndef.h'
-    version = dict(re.findall(r'^#define NDEF_VERSION_(MAJOR|MINOR) (\d+)', header.read_text(), re.M)) if header.exists() else {}
-    return version.get('MAJOR') == '0' and int(version['MINOR']) < 4
+def is_newer(block, folder):
+    """Whether a program asks for a later version than the header's."""
+    since = re.match(r'.* since version (\d+)\.(\d+)\b', block)
+    if not since:
+        return False
+    version = re.findall(r'^#define NDEF_VERSION_M\w+ (\d+)', (folder / 'include/ndef.h').read_text(), re.M)
+    return [*map(int, version)] < [*map(int, since.groups())]
 
 
 def written(text, language, folder):
     """The names of the programs, which are written to the folder, and whether each is left out."""
-    is_older = is_header_older(folder)
     for block in blocks(text, language):
         found = re.match(r'(?://|/\*|#) (\w+\.\w+)\b', block)
         if not found:
             raise SystemExit(f'a program has no name: {block.splitlines()[0]}')
-        is_in_c = is_older and language == 'c'
-        (folder / found[1]).write_text(block.replace('#include "ndef.h"', f'#include "{TOP}/test/c/since.h"') if is_in_c else block)
-        yield found[1], is_older and 'since version 0.4' in block.splitlines()[0]
+        (folder / found[1]).write_text(block)
+        yield found[1], is_newer(block, folder)
 
 
 def wrong(text, language, folder):

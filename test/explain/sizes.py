@@ -77,9 +77,7 @@ def most():
     run = told(['--payload', '16777216', '--json'], message)
     count('16777216 bytes', run.returncode == 0 and b'"length":16777216,"message":1' in run.stdout, run)
     run = told(['--payload', '16777216'], message + b'\0')
-    # Release 0.3.0 has another word for it.
-    kind = b'hexadecimal ' if told(['--version']).stdout == b'ndef-explain 0.3.0\n' else b''
-    count('one byte more', (run.returncode, run.stdout) == (3, b'fault: %sinput too long\n' % kind), run)
+    count('one byte more', (run.returncode, run.stdout) == (3, b'fault: input too long\n'), run)
     for size in (65535, 65536, 65537, 131072, 1048576, 8388608):
         run = told(['--payload', '16777216', '--json'], unknown(bytes(size - 6)))
         count('%d bytes' % size, run.returncode == 0 and b'"length":%d,"message":1' % size in run.stdout, run)

@@ -1,10 +1,8 @@
 /* Prints what the library for C says of each message of a file, lines in hexadecimal: what was wanted where it is refused, and
- * what may help, by both profiles, and since release 0.4.0 by numbers too: sentences FILE. Tests of faces print the same lines of the same
- * messages. */
+ * what may help, by both profiles and by numbers too: sentences FILE. Tests of faces print the same lines of the same messages. */
 #include <stdio.h>
 #include <stdlib.h>
 
-#include "../c/since.h"
 #include "ndef.h"
 
 enum { MOST = 1 << 20 };
@@ -34,15 +32,11 @@ static void show(saying *call, ndef_size length, const ndef_limits *limits) {
 
 /* Prints the hint, the place and the length, or a dash. */
 static void show_found(ndef_size length, const ndef_limits *limits) {
-#if IS_SINCE(0, 4)
     ndef_found found;
     uint32_t status = ndef_find_hint(message, length, limits, &found);
     if (status == NDEF_OK) printf(" | %u %llu %llu", found.hint, (unsigned long long)found.at, (unsigned long long)found.length);
     else if (status == NDEF_END) printf(" | -");
     else exit(2);
-#else
-    (void)length, (void)limits;
-#endif
 }
 
 static void show_sentences(ndef_size length, uint32_t flags) {

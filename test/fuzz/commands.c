@@ -15,7 +15,6 @@
  * front of what it prints otherwise, but for a last line that says the fault. */
 #define _GNU_SOURCE
 #include "ndef.h"
-#include "../c/since.h"
 
 #include <errno.h>
 #include <fcntl.h>

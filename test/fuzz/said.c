@@ -1,6 +1,5 @@
 /* What holds of the sentences of the library, whatever bytes it is given: why they are refused, what may help, and what is strange in what
  * is accepted (include/ndef.h). Messages come from standard input as test/fuzz/messages.c writes them; each is fed in parts too. */
-#include "../c/since.h"
 #include "ndef.h"
 
 #include <stdio.h>
@@ -46,10 +45,9 @@ static void look_at_hint(const ndef_limits *limits) {
         HOLDS(checked_from(0, limits) == NDEF_REFUSED && checked_from(0, &standard) == NDEF_OK);
 }
 
-/* The number of the hint; 0 where there is none, and of an older library. There is one where there is a sentence; a place is that of a message, or
- * in the bytes that a tag has for one. */
+/* The number of the hint; 0 where there is none. There is one where there is a sentence; a place is that of a message, or in the bytes that
+ * a tag has for one. */
 static uint32_t found_at(const uint8_t *bytes, ndef_size size, const ndef_limits *limits) {
-#if IS_SINCE(0, 4)
     ndef_found found = { 0, 0, 0 };
     ndef_checked checked;
     const uint32_t answer = ndef_find_hint(bytes, size, limits, &found);
@@ -61,10 +59,6 @@ static uint32_t found_at(const uint8_t *bytes, ndef_size size, const ndef_limits
         HOLDS(found.at < size && found.length == 0 && ndef_check(bytes + found.at, size - found.at, limits, &checked) == NDEF_OK);
     if (found.hint < NDEF_HINT_MESSAGE) HOLDS(found.at > 0 && found.length < 1 << 24);
     return found.hint;
-#else
-    (void)bytes, (void)size, (void)limits;
-    return 0;
-#endif
 }
 
 /* A byte of what surrounds a message on a tag: the hint says that the message begins at byte 1, exactly where one begins there and the bytes

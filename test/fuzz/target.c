@@ -2,7 +2,6 @@
  * program itself reads inputs from standard input, as lines of hexadecimal digits. An input is two bytes that choose
  * how the message is read, and the message. What does not hold is printed, and the program aborts. */
 #include "ndef.h"
-#include "../c/since.h"
 
 #include <stdio.h>
 #include <stdlib.h>

@@ -10,7 +10,6 @@ import java.util.Arrays;
 import java.util.List;
 import java.util.Locale;
 import java.util.Optional;
-import org.junit.jupiter.api.Assumptions;
 import org.junit.jupiter.api.Test;
 import org.junit.jupiter.api.function.Executable;
 import org.simbegyor.ndef.*;
@@ -373,7 +372,6 @@ class RecordTest {
         Limits limits = Limits.defaults().withRecords(1).withOpaque(true);
         assertEquals(Reason.TOO_MANY_RECORDS.sentence(), assertThrows(RecordException.class,
                 () -> NdefMessage.of(times(2, uri), limits, Profile.STRICT)).sentence());
-        Assumptions.assumeTrue(hasSentences());
         assertEquals("A text (`T`) has at least 1 octet; 0 were given.",
                 isRefused(1, 3, Reason.DOES_NOT_FIT, uri, wellKnown("T", "")).sentence());
     }
@@ -445,23 +443,11 @@ class RecordTest {
         assertEquals("mine", new FormatException("mine", refusal).sentence());
     }
 
-    /** Whether the library has sentences of bytes: that of release 0.2.0 hasn't, and says so. */
-    private static boolean hasSentences() {
-        try {
-            Sentences.why(NONE);
-            return true;
-        } catch (UnsupportedOperationException old) {
-            assertThrows(UnsupportedOperationException.class, () -> Sentences.hint(hello()));
-            return false;
-        }
-    }
-
     /** They are those of docs/EXPLAIN.md and test/explain/rows.txt. */
     @Test
     void remarks() {
         byte[] twice = Cases.unhex("9d00000161" + "1d00000162" + "5d00000161");
         assertThrows(IndexOutOfBoundsException.class, () -> Sentences.recordWarning(twice, -1));
-        Assumptions.assumeTrue(hasSentences());
         Optional<String> again = Optional.of("Another record has the same id.");
         Optional<String> none = Optional.empty();
         assertEquals(List.of(again, none, again, none), List.of(Sentences.recordWarning(twice, 0),
@@ -479,7 +465,6 @@ class RecordTest {
     /** They are those of docs/EXPLAIN.md and test/explain/rows.txt. */
     @Test
     void sentences() {
-        Assumptions.assumeTrue(hasSentences());
         byte[] late = Cases.unhex("d10106543f6162636465");
         assertEquals("The language code has 63 octets; 5 are left in the payload.", Sentences.why(late).get());
         assertEquals("A size (`s`) has 4 octets; 2 were given.",
@@ -500,20 +485,9 @@ class RecordTest {
         }
     }
 
-    /** Whether the library says by numbers what may help: that of release 0.3.0 doesn't. */
-    private static boolean findsHints() {
-        try {
-            Sentences.findHint(NONE);
-            return true;
-        } catch (UnsupportedOperationException old) {
-            return false;
-        }
-    }
-
     /** The kinds and places are those of test/faces/hints.txt, which Suite.java reads. */
     @Test
     void hints() throws FormatException {
-        Assumptions.assumeTrue(findsHints());
         byte[] tag = Cases.unhex("e1101200030cd101085402656e48656c6c6ffe");
         FoundHint found = Sentences.findHint(tag).get();
         assertEquals("A message of length 12 may begin at byte 6, in an NDEF TLV of a tag: read `Arrays.copyOfRange(bytes, 6, 18)`.",
@@ -556,7 +530,6 @@ class RecordTest {
 
     @Test
     void sentencesWithinLimits() {
-        Assumptions.assumeTrue(hasSentences());
         byte[] late = Cases.unhex("d10106543f6162636465");
         assertEquals(Sentences.why(late), Sentences.why(late, Limits.defaults().withOpaque(true), Profile.STRICT));
         assertEquals(Reason.PAYLOAD_TOO_LARGE.sentence(),

@@ -13,16 +13,6 @@ final class Said {
     private Said() {
     }
 
-    /** The hint by numbers; nothing, where the library is that of release 0.3.0. */
-    private static String found(byte[] bytes, Profile profile) {
-        try {
-            return " | " + Sentences.findHint(bytes, Limits.defaults(), profile)
-                    .map(found -> found.kind().number() + " " + found.place() + " " + found.length()).orElse("-");
-        } catch (UnsupportedOperationException old) {
-            return "";
-        }
-    }
-
     public static void main(String[] words) throws IOException {
         try (BufferedReader messages = Files.newBufferedReader(Path.of(words[0]));
                 PrintWriter out = new PrintWriter(new BufferedWriter(new OutputStreamWriter(System.out,
@@ -32,7 +22,9 @@ final class Said {
                 for (Profile profile : Profile.values()) {
                     String why = Sentences.why(bytes, Limits.defaults(), profile).orElse("-");
                     String hint = Sentences.hint(bytes, Limits.defaults(), profile).orElse("-");
-                    out.println(profile.ordinal() + " | " + why + " | " + hint + found(bytes, profile));
+                    String found = Sentences.findHint(bytes, Limits.defaults(), profile)
+                            .map(it -> it.kind().number() + " " + it.place() + " " + it.length()).orElse("-");
+                    out.println(profile.ordinal() + " | " + why + " | " + hint + " | " + found);
                 }
             }
         }

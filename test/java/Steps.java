@@ -26,14 +26,6 @@ final class Steps {
 
     public static void main(String[] words) {
         int rounds = Integer.parseInt(words[0]);
-        try {
-            message(1).toInputStream();
-        } catch (UnsupportedOperationException older) {
-            System.out.println("left out: messages in steps: " + older.getMessage());
-            Cases.check("nor a record", () -> fails(UnsupportedOperationException.class, () -> of(NONE, 0)));
-            Cases.finish("steps");
-            return;
-        }
         Cases.check("random messages", () -> randomMessages(rounds));
         Cases.check("each size", Steps::eachSize);
         Cases.check("too few bytes", Steps::tooFew);

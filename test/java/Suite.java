@@ -36,11 +36,9 @@ final class Suite {
         for (String[] line : Cases.lines(folder, "encoding.txt")) {
             Cases.check(line[ID], () -> isEncoded(line));
         }
-        if (findsHints()) {
-            for (String line : Files.readAllLines(top.resolve("test/faces/hints.txt"))) {
-                if (!line.startsWith("#")) {
-                    Cases.check("hint " + line, () -> isHinted(line.split(" ")));
-                }
+        for (String line : Files.readAllLines(top.resolve("test/faces/hints.txt"))) {
+            if (!line.startsWith("#")) {
+                Cases.check("hint " + line, () -> isHinted(line.split(" ")));
             }
         }
         namesAreTheHeaders(Files.readString(top.resolve("include/ndef_names.h")));
@@ -218,16 +216,6 @@ final class Suite {
     }
 
     // ---- hints
-
-    /** Whether the library says by numbers what may help: that of release 0.3.0 doesn't. */
-    private static boolean findsHints() {
-        try {
-            Sentences.findHint(new byte[0]);
-            return true;
-        } catch (UnsupportedOperationException old) {
-            return false;
-        }
-    }
 
     /** A row has the number of a hint, or 0; the place; the length; and the bytes. A sentence that names no command is that of the library. */
     private static void isHinted(String[] row) {

@@ -225,17 +225,15 @@ WRITTEN = {b'T': write_text, b'U': write_uri, b'Sp': write_poster, b'Hr': write_
 
 
 def said(octets, flags=0, most=USUAL):
-    """What was wanted of octets that are refused, and the hint, as the calls write them; what the library of 0.2.0 says, which has neither."""
-    if not library.has_sentences:
-        return MEANT[checked(octets, flags, most)[1]], None
+    """What was wanted of octets that are refused, and the hint, as the calls write them."""
     why, hint = (roomed(name, *sized(octets), limits_of(flags, most)) for name in ('ndef_refusal_message', 'ndef_hint'))
     return why.decode('ascii'), hint and hint.decode('ascii')
 
 
 def found_hint(octets, flags, most):
-    """The numbers of the hint, as the call gives them; None where it gives none, and of an older library."""
+    """The numbers of the hint, as the call gives them; None where it gives none."""
     out = ctypes.create_string_buffer(24)
-    is_found = library.has_found_hints and C.ndef_find_hint(*sized(octets), limits_of(flags, most), out) == library.OK
+    is_found = C.ndef_find_hint(*sized(octets), limits_of(flags, most), out) == library.OK
     return struct.unpack_from('I4x2N', out) if is_found else None
 
 
@@ -385,11 +383,8 @@ class Calls(unittest.TestCase):
         place, reason = checked(octets, flags, most)
         profile = ('strict', 'standard')[flags]
         sentence, hint = said(octets, flags, most) if octets and reason else (None, None)
-        if library.has_sentences:
-            self.assertEqual((ndef.why(octets, profile), ndef.hint(octets, profile)), (sentence, hint))
         found = found_hint(octets, flags, most) if octets and reason else None
-        if library.has_found_hints:
-            self.assertEqual(ndef.find_hint(octets, profile), found)
+        self.assertEqual((ndef.why(octets, profile), ndef.hint(octets, profile), ndef.find_hint(octets, profile)), (sentence, hint, found))
         try:
             listed = ndef.fields(octets, profile)
             self.assertEqual(listed, wanted)
@@ -401,8 +396,6 @@ class Calls(unittest.TestCase):
 
     def remarks(self, octets, listed):
         """The warnings on fields and on records are those that the calls write."""
-        if not library.has_warnings:
-            return
         for field in listed:
             written = roomed('ndef_field_warning', ctypes.c_uint32(NUMBERS[field.name]), *sized(field.octets))
             self.assertEqual(ndef.field_warning(field.name, field.octets), written and written.decode('ascii'))

@@ -9,7 +9,6 @@ import unittest
 
 import counted
 import simbegyor_ndef as ndef
-from simbegyor_ndef import _library as library
 
 HELLO = bytes.fromhex('d101085402656e48656c6c6f')
 
@@ -67,7 +66,6 @@ class CommandLine(unittest.TestCase):
         self.assertEqual((status, lines[:-1]), (1, [*head, *last[:2], 'refused at 24 (0x00000018): 24 EndOfInput']))
         self.assertEqual(self.run_with('explain', given=b''), (0, []))
 
-    @unittest.skipUnless(library.has_sentences, 'the library is that of release 0.2.0')
     def test_sentences_of_explain(self):
         """The last lines, as docs/EXPLAIN.md and test/explain/rows.txt have them."""
         late, code, block = bytes.fromhex('d10106543f6162636465'), bytes.fromhex('d1010955687474703a2f2f6162'), b'\x01' + HELLO
@@ -93,7 +91,6 @@ class CommandLine(unittest.TestCase):
     LONG = bytes.fromhex('c1010000 000355 04610a')
     IDS = bytes.fromhex('9d00000161 5d00000161')
 
-    @unittest.skipUnless(library.has_warnings, 'the library is that of release 0.2.0')
     def test_remarks_of_explain(self):
         """They stand where docs/EXPLAIN.md says: after the field, and after all fields of the message."""
         size = 'The payload length 3 fits one octet (SR): the message could be 3 bytes shorter.'
@@ -111,7 +108,6 @@ class CommandLine(unittest.TestCase):
         self.assertEqual([part.get('remark') for part in first['fields']], [None, None, size, None, None, 'The URI has a control character.'])
         self.assertEqual(('remarks' in first, second['remarks']), (False, [{'record': number, 'sentence': again} for number in (1, 2)]))
 
-    @unittest.skipUnless(library.has_warnings, 'the library is that of release 0.2.0')
     def test_remarks_of_many_records(self):
         """Records are compared in messages of at most 64."""
         for count, told in ((64, 64), (65, 0)):
@@ -120,8 +116,8 @@ class CommandLine(unittest.TestCase):
             self.assertEqual(sum(line.startswith('remark: record ') for line in lines), told)
 
     def test_nothing_is_strange(self):
-        """Remarks are on what is accepted alone, and there are none with the library of release 0.2.0."""
-        for given in (HELLO, self.LONG[:9], *([] if library.has_warnings else [self.LONG, self.IDS])):
+        """Remarks are on what is accepted alone."""
+        for given in (HELLO, self.LONG[:9]):
             for words in (['explain'], ['explain', '--json']):
                 self.assertNotIn('remark', '\n'.join(self.run_with(*words, given=given)[1]))
 
@@ -133,8 +129,7 @@ class CommandLine(unittest.TestCase):
         self.assertEqual(first['fields'][6], {'at': 7, 'length': 5, 'depth': 0, 'name': 'text', 'octets': '48656c6c6f'})
         self.assertEqual((second['message'], second['at'], [(part['at'], part['name']) for part in second['fields']]),
                          (2, 12, list(zip((12, 13, 14), names))))
-        sentence = '1 octet of TYPE is missing.' if library.has_sentences else 'The input ends within a message.'
-        self.assertEqual(third, {'refused': {'place': 15, 'number': 24, 'reason': 'EndOfInput', 'sentence': sentence}})
+        self.assertEqual(third, {'refused': {'place': 15, 'number': 24, 'reason': 'EndOfInput', 'sentence': '1 octet of TYPE is missing.'}})
 
     def test_the_first_word(self):
         """Only the first word may be one of the three; `show` is meant without it."""

@@ -5,7 +5,6 @@ import unittest
 
 import counted
 import simbegyor_ndef as ndef
-from simbegyor_ndef import _library as library
 
 TABLE = pathlib.Path(__file__).parents[1] / 'faces/hints.txt'
 # The memory of a Type 2 Tag from its capability container on, an empty one, and the type name format 7.
@@ -22,7 +21,6 @@ def rows():
             yield (kind, place, length) if kind else None, bytes.fromhex(digits.strip('-'))
 
 
-@unittest.skipUnless(library.has_found_hints, 'the library is older than 0.4.0')
 class Hints(unittest.TestCase):
     def test_the_table(self):
         kinds = set()

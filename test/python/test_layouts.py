@@ -1,7 +1,6 @@
 """Tests of `_layout`: where and why a payload of a record class of one's own is refused, and what is no layout."""
 import io
 import unittest
-import unittest.mock
 
 import counted
 import simbegyor_ndef as ndef
@@ -43,7 +42,6 @@ def refusal(octets, *fields, **how):
     return None
 
 
-@unittest.skipUnless(library.has_layouts, 'the library checks no layouts')
 class Places(unittest.TestCase):
     def test_lengths(self):
         two = layout.octets(2)
@@ -101,7 +99,6 @@ class Layouts(unittest.TestCase):
             ndef.Record._known_parts.clear()
             ndef.Record._known_parts.update(known)
 
-    @unittest.skipUnless(library.has_layouts, 'the library checks no layouts')
     def test_what_is_none(self):
         rest = layout.rest()
         for given in (5, [rest], (1,), ((5, 0, 0),), rest, 'rest'):
@@ -117,12 +114,6 @@ class Layouts(unittest.TestCase):
             self.assertRaises(TypeError, function, *given)
         for function, given in ((layout.octets, (-1,)), (layout.octets, (1 << 32,)), (layout.within, (-1, 1)), (layout.within, (0, 1 << 32))):
             self.assertRaises(ValueError, function, *given)
-
-    def test_older_library(self):
-        with unittest.mock.patch.object(library, 'has_layouts', False):
-            layout._array.cache_clear()
-            self.registered(None)
-            self.assertRaises(NotImplementedError, self.registered, (layout.octets(2),))
 
 
 if __name__ == '__main__':

@@ -36,7 +36,6 @@ def given(*records, **how):
     return b''.join(before), None
 
 
-@unittest.skipUnless(library.has_writers, 'the library writes no records in steps')
 class Parts(unittest.TestCase):
     def test_sizes(self):
         whole = octets(TEXT, IMAGE, TEXT)
@@ -109,7 +108,6 @@ class Parts(unittest.TestCase):
         return changed
 
 
-@unittest.skipUnless(library.has_writers, 'the library writes no records in steps')
 class Errors(unittest.TestCase):
     HEAD = b'\xda\t\5\1image/pngi'
 
@@ -183,11 +181,6 @@ class Errors(unittest.TestCase):
         self.assertTrue(record == record)
         self.assertFalse(record == ndef.Record('a/b', 'n', b'ab') or ndef.Record('a/b', 'n', b'ab') == record)
         self.assertEqual(octets(pickle.loads(pickle.dumps(record)), size=9), octets(record))
-
-    def test_without_the_calls(self):
-        with mock.patch.object(library, 'has_writers', False):
-            self.assertRaisesRegex(NotImplementedError, 'older than 0.4', list, ndef.message_encoder([TEXT], size=4))
-            self.assertEqual(octets(streamed(b'ab')), octets(ndef.Record('image/png', 'i', b'ab')))
 
 
 if __name__ == '__main__':

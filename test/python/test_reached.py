@@ -1,11 +1,12 @@
 """What the other files of tests leave out: classes of one's own that lack a method, values that are changed so that they can't be written, and a
-module without its library, or with one that the loader doesn't know by name."""
+module without its library, or with one that the loader doesn't know by name or that has another version."""
 import ctypes
 import pathlib
 import shutil
 import subprocess
 import sys
 import tempfile
+import types
 import unittest
 from unittest import mock
 
@@ -60,11 +61,22 @@ class Reached(unittest.TestCase):
 
         with tempfile.TemporaryDirectory() as folder:
             link = str(pathlib.Path(folder, 'libndef.so'))
-            pathlib.Path(link).symlink_to('/nowhere/libsimbegyor-ndef.so.0')
+            pathlib.Path(link).symlink_to('/nowhere/libsimbegyor-ndef.so.1')
             with mock.patch.object(library, '_path', link):
                 loaded = library._loaded(load)
-        self.assertEqual(asked, ['libsimbegyor-ndef.so.0', link])
+        self.assertEqual(asked, ['libsimbegyor-ndef.so.1', link])
         self.assertEqual(loaded.version(), ctypes.CDLL(lies).ndef_version())
+
+    def test_a_library_of_another_version(self):
+        def loaded(number):
+            return library._loaded(lambda name: types.SimpleNamespace(ndef_version=lambda: number))
+
+        for number, version in ((0x000300, '0.3.0'), (0x020003, '2.0.3')):
+            with self.assertRaises(ImportError) as caught:
+                loaded(number)
+            self.assertEqual(str(caught.exception), 'simbegyor_ndef needs the library for C of version 1.0.0, or a later 1; that at %s is %s'
+                             % (library._path, version))
+        self.assertEqual([loaded(number).version() for number in (0x010000, 0x010203)], [0x010000, 0x010203])
 
 
 if __name__ == '__main__':

@@ -5,12 +5,10 @@ import copy
 import io
 import pickle
 import unittest
-import unittest.mock
 
 import counted
 import simbegyor_ndef as ndef
 from cases import sentences
-from simbegyor_ndef import _library as library
 
 # A text whose language code doesn't fit (RTD Text 1.0), a message, and one after an octet that may be of a tag (Type 2 Tag, TLV blocks).
 LATE = bytes.fromhex('d10106543f6162636465')
@@ -19,8 +17,7 @@ AFTER = b'\x01' + HELLO
 WANTED = {
     LATE: 'The language code has 63 octets; 5 are left in the payload.',
     bytes.fromhex('d1020c5370 91010255 0361 51010273 0102'): 'A size (`s`) has 4 octets; 2 were given.',
-    bytes.fromhex('d1020e487212 9102026163'): 'This request must begin with a collision record (`cr`); '
-                                              + ('its first record is another.' if library.has_found_hints else 'it has none.'),
+    bytes.fromhex('d1020e487212 9102026163'): 'This request must begin with a collision record (`cr`); its first record is another.',
     bytes.fromhex('d10104548061 6263'): 'The text in UTF-16 has an odd number of octets.',
     bytes.fromhex('c10100000003 55 0461'): '1 octet of the payload is missing.',
     b'\xd7\0\0': 'The type name format 7 is reserved.',
@@ -41,7 +38,6 @@ def refusal(make):
     raise AssertionError('nothing is refused')
 
 
-@unittest.skipUnless(library.has_sentences, 'the library is that of release 0.2.0')
 class Sentences(unittest.TestCase):
     def test_what_was_wanted(self):
         for octets, sentence in WANTED.items():
@@ -109,12 +105,6 @@ class WithoutOctets(unittest.TestCase):
         error = refusal(lambda: list(ndef.message_decoder(LATE, known_types={'urn:nfc:wkt:T': ndef.TextRecord})))
         self.assertEqual((error.place, error.sentence, error.hint), (4, sentences()[error.number], None))
 
-    def test_the_library_of_release_0_2_0(self):
-        with unittest.mock.patch.object(library, 'has_sentences', False):
-            for octets in (*WANTED, *HINTS):
-                error = refusal(lambda: ndef.fields(octets))
-                self.assertEqual((error.sentence, error.hint), (sentences()[error.number], None))
-
 
 # What is strange in a field, by its name and octets (docs/EXPLAIN.md, Remarks); None where nothing is.
 FIELDS = {
@@ -143,7 +133,6 @@ RECORDS = {
 }
 
 
-@unittest.skipUnless(library.has_warnings, 'the library is that of release 0.2.0')
 class Remarks(unittest.TestCase):
     def test_fields(self):
         for (name, octets), sentence in FIELDS.items():
@@ -177,14 +166,6 @@ class Remarks(unittest.TestCase):
 
     def test_the_names_of_release_0_3_0(self):
         self.assertEqual((ndef.field_remark, ndef.record_remark), (ndef.field_warning, ndef.record_warning))
-
-
-@unittest.skipIf(library.has_warnings, 'the library has warnings')
-class WithoutRemarks(unittest.TestCase):
-    def test_the_library_of_release_0_2_0(self):
-        self.assertRaises(AttributeError, ndef.field_warning, 'URI', b'a')
-        self.assertRaises(AttributeError, ndef.record_warning, HELLO, 0)
-        self.assertRaises(AttributeError, ndef.record_warning, HELLO, 64)
 
 
 if __name__ == '__main__':

@@ -1,5 +1,5 @@
 // What stands in the page and is shown there, tested within the page itself by test/web/page.mjs, which sets CASES before this
-// script, and REMARKS and HINTS: whether the library has them. The last paragraph of the page has the failures then, and 'N passed, M failed'.
+// script. The last paragraph of the page has the failures then, and 'N passed, M failed'.
 const find = (id) => document.getElementById(id);
 const textOf = (id) => find(id).textContent;
 const LIMITS = ["payload", "records", "chunks"];
@@ -140,18 +140,17 @@ function showsRemarks() {
     const onFields = () => [...document.querySelectorAll("#field-part .remark")].map((row) => [row.previousSibling.children[1].textContent, row.textContent]);
     const told = (hex) => { enter(hex); return [onRecords(), onFields()]; };
     const again = "Another record has the same id.", long = "The payload length 0 fits one octet (SR): the message could be 3 bytes shorter.";
-    const known = (...wanted) => (REMARKS ? wanted : [[], []]);
-    look("remarks on two of three records", told("9D000001 61 1D000001 62 5D000001 61"), known([["1", again], ["3", again]], []));
-    look("a remark on a field of the second message", told("D00000 C00000000000"), known([], [["PAYLOAD_LENGTH", long]]));
+    look("remarks on two of three records", told("9D000001 61 1D000001 62 5D000001 61"), [[["1", again], ["3", again]], []]);
+    look("a remark on a field of the second message", told("D00000 C00000000000"), [[], [["PAYLOAD_LENGTH", long]]]);
     const REFUSED = "9D000001 61 0D0000000000 01 61 D7", POSTER = "D102065370 D10102550061";
     look("remarks on neither where the message is refused", told(REFUSED), [[], []]);
     look("at most 500 fields, with warnings", [told("C00000000000".repeat(200))[1].length, document.querySelectorAll("#field-part tbody tr").length],
-        REMARKS ? [166, 666] : [0, 500]);
+        [166, 666]);
     look("a hundred tables", document.querySelectorAll("#record-part table").length, 100);
     const asked = (hex) => { window.asked = 0; enter(hex); return window.asked; };
     const same = (count) => `9D000001 61${"1D000001 61".repeat(count - 2)}5D000001 61`;
     look("which records the library is asked for: of at most 64, no nested ones, and none where the message is refused",
-        [same(64), same(65), POSTER, REFUSED].map(asked), REMARKS ? [64, 0, 1, 0] : [0, 0, 0, 0]);
+        [same(64), same(65), POSTER, REFUSED].map(asked), [64, 0, 1, 0]);
 }
 
 // What may help where bytes are refused, and the button that takes its part of them. The kinds and the places are those of test/faces/hints.txt.
@@ -163,8 +162,6 @@ function showsHints() {
         return [find("hex").value, textOf("verdict"), find("remarks").hidden];
     };
     look("no hint for a message, nor for bytes after one", [told(TEXT), find("remarks").hidden, told(`${TEXT} 01 D00000`)], [[], true, []]);
-    look("the other profile", told("D7000161").length, REMARKS ? 1 : 0);
-    if (!HINTS) return;
     look("a tag's memory", told("E1101200 030CD101085402656E48656C6C6FFE"), ["A message of length 12 may begin at byte 6, in an NDEF TLV of a tag. Look from byte 6"]);
     look("its message", pressed(), [TEXT, "1 message, 1 record, 12 bytes", true]);
     look("a message after another byte", told("01 D00000"),

@@ -3,13 +3,12 @@
 // bytes changed and cut off; over what the fuzzer found; and over this many random messages. Each payload is read as every type.
 // Prints 'N passed, M failed'.
 import { readFileSync } from "node:fs";
-import { byNames } from "../../out/web/calling.js";
 import { Ndef } from "../../out/web/ndef.js";
 import { below, randomLimits, randomMessage } from "./random.mjs";
 
 const code = readFileSync(new URL("../../out/web/ndef.wasm", import.meta.url));
 const ndef = await Ndef.load(code);
-const c = byNames((await WebAssembly.instantiate(code)).instance.exports);
+const c = (await WebAssembly.instantiate(code)).instance.exports;
 const base = (Number(c.__heap_base.value) + 15) & ~15;
 const OUT = 64, WHY = 256, COUNT = 320, ARRAY = 8192, INPUT = 1 << 20, ROOM = 3 << 20;
 c.memory.grow(128);
@@ -162,17 +161,18 @@ function records(bytes, profiles, chosen) {
     for (const at of [1, bytes.length, bytes.length + 1]) look(`recordAt ${at}`, ndef.recordAt(bytes, at), record(bytes, at, 0), bytes);
 }
 
-// What `read` gives of bytes, by ndef_items and by the walk that stands in for it: the answer of the check, the records, and the values of texts and URIs.
-const walking = new Ndef({ ...(await WebAssembly.instantiate(code)).instance.exports, ndef_items: undefined });
+// What `read` gives of bytes: the answer of the check, the records, and the values of texts and URIs. The walk of `items` gives the same of a message.
 const partsOf = ({ tnf, kind, type, id, payload }) => ({ tnf, kind, type, id, payload });
 const valueOf = ({ status, language, text, utf16, place, reason }) => ({ status, language, text, utf16, place, reason });
 function reads(bytes, options, flags) {
     const how = { ...options, flags }, answer = ndef.check(bytes, how), wanted = answer.status === Ndef.OK ? recordsOf(bytes, 0) : null;
     const values = wanted?.filter(({ kind }) => kind === 1 || kind === 2).map(({ kind, payload }) => valueOf(kind === 1 ? texts(payload) : uris(payload, flags & 1)));
-    for (const calls of [ndef, walking]) {
-        const { items, ...told } = calls.read(bytes, how), given = items?.filter(({ kind }) => kind === 1 || kind === 2);
-        look(`what is read with ${flags}`, [told, items?.map(partsOf)], [answer, wanted?.map(partsOf)], bytes);
-        look(`values with ${flags}`, given?.map((item) => valueOf(item.kind === 1 ? calls.textOf(item) : calls.uriOf(item, flags & 1))), values, bytes);
+    const { items, ...told } = ndef.read(bytes, how);
+    look(`what is read with ${flags}`, [told, items === null], [answer, wanted === null], bytes);
+    for (const all of items === null ? [] : [items, ndef.items(bytes, flags)]) {
+        const given = all.filter(({ kind }) => kind === 1 || kind === 2);
+        look(`records with ${flags}`, all.map(partsOf), wanted.map(partsOf), bytes);
+        look(`values with ${flags}`, given.map((item) => valueOf(item.kind === 1 ? ndef.textOf(item) : ndef.uriOf(item, flags & 1))), values, bytes);
     }
 }
 
@@ -238,54 +238,45 @@ for (let value = 0; value < 64; value++) {
     look("statusName", ndef.statusName(value), named("ndef_status_name", value), []);
     look("fieldName", ndef.fieldName(value), named("ndef_field_name", value), []);
 }
-// A text whose language code doesn't fit, a message after a byte that may be of a tag, a message, and bytes whose payloads aren't
-// checked. The library of an older release hasn't these calls, as that in dist/ may be.
+// A text whose language code doesn't fit, a message after a byte that may be of a tag, a message, and bytes whose payloads aren't checked.
 const late = [0xd1, 1, 6, 0x54, 0x3f, 0, 0, 0, 0, 0], after = [1, 0xd0, 0, 0];
-if (process.env.NDEF_FROM !== "dist" || c.ndef_refusal_message !== undefined) {
-    look("why", ndef.why(new Uint8Array(late)), "The language code has 63 octets; 5 are left in the payload.", late);
-    look("why", ndef.why(new Uint8Array([0xd0, 0, 0])), null, [0xd0, 0, 0]);
-    look("why", ndef.why(new Uint8Array(late), { flags: Ndef.OPAQUE }), null, late);
-    look("hint", ndef.hint(new Uint8Array(after)),
-        "The bytes may begin with what surrounds a message on a tag; a message begins at byte 1.", after);
-    look("hint", ndef.hint(new Uint8Array(late)), null, late);
-}
+look("why", ndef.why(new Uint8Array(late)), "The language code has 63 octets; 5 are left in the payload.", late);
+look("why", ndef.why(new Uint8Array([0xd0, 0, 0])), null, [0xd0, 0, 0]);
+look("why", ndef.why(new Uint8Array(late), { flags: Ndef.OPAQUE }), null, late);
+look("hint", ndef.hint(new Uint8Array(after)),
+    "The bytes may begin with what surrounds a message on a tag; a message begins at byte 1.", after);
+look("hint", ndef.hint(new Uint8Array(late)), null, late);
 // An empty tag after its capability container, and the type name format 7 (test/faces/hints.txt).
-if (process.env.NDEF_FROM !== "dist" || c.ndef_find_hint !== undefined) {
-    const empty = [0xe1, 0x10, 0x12, 0, 3, 0, 0xfe], reserved = [0xd7, 0, 1, 0x61];
-    look("findHint", ndef.findHint(new Uint8Array(empty)), { hint: Ndef.HINT.TLV, at: 6, length: 0 }, empty);
-    look("findHint", ndef.findHint(new Uint8Array(after)), { hint: Ndef.HINT.MESSAGE, at: 1, length: 0 }, after);
-    look("findHint", ndef.findHint(new Uint8Array(late)), null, late);
-    look("findHint", ndef.findHint(new Uint8Array(reserved)), { hint: Ndef.HINT.STANDARD, at: 0, length: 0 }, reserved);
-    look("findHint", [Ndef.STANDARD, Ndef.OPAQUE].map((flags) => ndef.findHint(new Uint8Array(reserved), { flags })), [null, null], reserved);
-}
+const empty = [0xe1, 0x10, 0x12, 0, 3, 0, 0xfe], reserved = [0xd7, 0, 1, 0x61];
+look("findHint", ndef.findHint(new Uint8Array(empty)), { hint: Ndef.HINT.TLV, at: 6, length: 0 }, empty);
+look("findHint", ndef.findHint(new Uint8Array(after)), { hint: Ndef.HINT.MESSAGE, at: 1, length: 0 }, after);
+look("findHint", ndef.findHint(new Uint8Array(late)), null, late);
+look("findHint", ndef.findHint(new Uint8Array(reserved)), { hint: Ndef.HINT.STANDARD, at: 0, length: 0 }, reserved);
+look("findHint", [Ndef.STANDARD, Ndef.OPAQUE].map((flags) => ndef.findHint(new Uint8Array(reserved), { flags })), [null, null], reserved);
 // What is strange in fields and in records, by docs/EXPLAIN.md; three records have the ids a, b and a.
-if (process.env.NDEF_FROM !== "dist" || c.ndef_record_warning !== undefined) {
-    look("fieldWarning", ndef.fieldWarning("action", new Uint8Array([3])), "The action 3 is reserved.", []);
-    look("fieldWarning", ndef.fieldWarning("action", new Uint8Array([2])), null, []);
-    look("fieldWarning", ndef.fieldWarning("PAYLOAD_LENGTH", new Uint8Array([0, 0, 0, 3])),
-        "The payload length 3 fits one octet (SR): the message could be 3 bytes shorter.", []);
-    const twice = new Uint8Array([0x9d, 0, 0, 1, 0x61, 0x1d, 0, 0, 1, 0x62, 0x5d, 0, 0, 1, 0x61]), again = "Another record has the same id.";
-    look("recordWarning", [0, 1, 2, 3, 1e15].map((index) => ndef.recordWarning(twice, index)), [again, null, again, null, null], twice);
-    look("recordWarning", ndef.recordWarning(twice.subarray(0, 14), 0), null, twice);
-}
+look("fieldWarning", ndef.fieldWarning("action", new Uint8Array([3])), "The action 3 is reserved.", []);
+look("fieldWarning", ndef.fieldWarning("action", new Uint8Array([2])), null, []);
+look("fieldWarning", ndef.fieldWarning("PAYLOAD_LENGTH", new Uint8Array([0, 0, 0, 3])),
+    "The payload length 3 fits one octet (SR): the message could be 3 bytes shorter.", []);
+const twice = new Uint8Array([0x9d, 0, 0, 1, 0x61, 0x1d, 0, 0, 1, 0x62, 0x5d, 0, 0, 1, 0x61]), again = "Another record has the same id.";
+look("recordWarning", [0, 1, 2, 3, 1e15].map((index) => ndef.recordWarning(twice, index)), [again, null, again, null, null], twice);
+look("recordWarning", ndef.recordWarning(twice.subarray(0, 14), 0), null, twice);
 for (const wrong of [() => ndef.fieldWarning("uri", new Uint8Array(1)), () => ndef.recordWarning(new Uint8Array(1), -1)]) {
     let refused = null;
     try { wrong(); } catch (error) { refused = error; }
     look("a bad argument for a remark", refused instanceof RangeError, true, []);
 }
-const older = new Ndef({ ...c, ndef_refusal_message: undefined, ndef_why: undefined });
-let said = "";
-try { older.why(new Uint8Array(late)); } catch (error) { said = String(error); }
-look("a call that the library lacks", [said, older.lacks.has("ndef_refusal_message"), older.lacks.has("ndef_check")],
-    ["Error: the library has no ndef_refusal_message: it is of an older version than ndef.js", true, false], late);
+const saysOf = (number) => { try { return new Ndef({ ...c, ndef_version: () => number }).version().join("."); } catch (error) { return String(error); } };
+const needs = "Error: ndef.js needs the library of version 1.0.0, or a later 1; this is";
+look("libraries of other versions", [0x300, 0x20003, 0x10203].map(saysOf), [`${needs} 0.3.0`, `${needs} 2.0.3`, "1.2.3"], []);
 c.ndef_default_limits(base);
 look("defaultLimits", ndef.defaultLimits(), { payload: u32(0), records: u32(4), chunks: u32(8), flags: u32(12) }, []);
 
 // A byte order mark is a character of a text in UTF-8, and the memory grows by what is given.
 look("text", ndef.text(fromHex("02656EEFBBBF61")).text, "\ufeffa", []);
-const many = fromHex(`900000${"100000".repeat(2998)}550001 07`);
-look("many records by a walk", walking.read(many, { records: 3000 }).items.map(({ tnf, payload }) => [tnf, payload.length]).slice(2997), [[0, 0], [0, 0], [5, 1]], many);
-const large = new Uint8Array(3000006), fresh = await Ndef.load(code);
+const many = fromHex(`900000${"100000".repeat(2998)}550001 07`), fresh = await Ndef.load(code);
+look("many records by a walk", fresh.items(many).map(({ tnf, payload }) => [tnf, payload.length]).slice(2997), [[0, 0], [0, 0], [5, 1]], many);
+const large = new Uint8Array(3000006);
 large.set([0xc5, 0, 0, 45, 0xc6, 0xc0]);
 look("a message of 3 MB", [fresh.check(large, { payload: 3000000 }).place, fresh.records(large)[0].payload.length], [3000006, 3000000], []);
 const { taken, refused, cut, chunked } = answered;

@@ -334,8 +334,8 @@ await test("every case of the suite is explained", () => all.filter(({ options }
     if (isAccepted) same(fields(bytes, options), told.fields);
     else same(throws(NdefError, () => fields(bytes, options)).place, place);
 }));
-// The library of release 0.2.0 has no such calls. RTD Text 1.0 and RTD URI 1.0 say what is wrong with the bytes.
-if (!calls.lacks.has("ndef_refusal_message")) await test("why bytes are refused, and what may help", () => {
+// RTD Text 1.0 and RTD URI 1.0 say what is wrong with the bytes.
+await test("why bytes are refused, and what may help", () => {
     const long = bytesOf("D1 01 06 54 3F 61 62 63 64 65"), uri = bytesOf("D1 01 06 55 68 74 74 70 3A 2F"), good = bytesOf("D00000");
     same([why(long), hint(long)], ["The language code has 63 octets; 5 are left in the payload.", null]);
     same(hint(uri.buffer), "68 (hexadecimal) is the letter h: was the identifier code left out?");
@@ -344,8 +344,7 @@ if (!calls.lacks.has("ndef_refusal_message")) await test("why bytes are refused,
     for (const say of [why, hint]) for (const wrong of ["d00000", null, [1]]) throws(TypeError, () => say(wrong));
     for (const say of [why, hint]) throws(TypeError, () => say(good, 1));
 });
-// The library of release 0.3.0 has no such call.
-if (!calls.lacks.has("ndef_find_hint")) await test("what may help, for a program", () => {
+await test("what may help, for a program", () => {
     const rows = readFileSync(new URL("../faces/hints.txt", import.meta.url), "utf8").trim().split("\n").filter((line) => !line.startsWith("#"));
     const kinds = new Set(), isPlain = ({ kind, length }) => kind === HINT.TERMINATOR || kind === HINT.CODE || (kind <= HINT.FILE && length === 0);
     for (const row of rows) {
@@ -384,7 +383,6 @@ await test("the payloads of records that were read unchecked are refused where t
 await test("console.log shows all of a message where no depth is given", () =>
     same(inspect(decode(bytesOf("D1 01 05 54 02 656E 4869")), { depth: null }).includes("Hi"), true));
 await test("a message takes one call of the library, and its texts and URIs none", async () => {
-    if (calls.lacks.has("ndef_items")) return;
     const { exports } = (await WebAssembly.instantiate(code)).instance, made = [];
     const counting = new Ndef(Object.fromEntries(Object.entries(exports).map(([name, one]) =>
         [name, typeof one === "function" ? (...given) => { made.push(name); return one(...given); } : one])));

@@ -89,7 +89,7 @@ const COUNTER = `const { instantiate } = WebAssembly;
 WebAssembly.instantiate = async (...given) => {
     const { exports } = (await instantiate(...given)).instance, { ndef_record_warning: call } = exports;
     const counted = (...words) => { window.asked++; return call(...words); };
-    return { instance: { exports: call ? { ...exports, ndef_record_warning: counted } : exports } };
+    return { instance: { exports: { ...exports, ndef_record_warning: counted } } };
 };
 window.asked = 0;`;
 
@@ -97,7 +97,7 @@ const browser = await Browser.start();
 try {
     for (const source of [READER, COUNTER]) await browser.send("Page.addScriptToEvaluateOnNewDocument", { source });
     await browser.open(`file://${fileURLToPath(at("../../out/web/index.html"))}`, 'document.getElementById("verdict").textContent !== ""');
-    await browser.evaluate(`{ window.CASES = ${JSON.stringify(cases.filter(Boolean))}; window.REMARKS = ${!ndef.lacks.has("ndef_record_warning")}; window.HINTS = ${!ndef.lacks.has("ndef_find_hint")};\n${readFileSync(at("./in_page.js"), "utf8")} }`);
+    await browser.evaluate(`{ window.CASES = ${JSON.stringify(cases.filter(Boolean))};\n${readFileSync(at("./in_page.js"), "utf8")} }`);
     await browser.until('document.getElementById("report")?.textContent');
     const report = await browser.evaluate('document.getElementById("report").textContent');
     console.log(report.replaceAll(". FAILED", ".\nFAILED").replace(/([0-9]+ passed, [0-9]+ failed)$/, "\n$1").trim());

@@ -1,17 +1,12 @@
 // node test/web/parts.mjs [MESSAGES]: messages that the package writes in parts, and records whose payload comes in parts: random messages have the
-// bytes that encode writes at once, whatever the sizes of the parts, as an iterator and as a stream; and what is refused, and when. The
-// library of an earlier release lacks the calls. Prints 'N passed, M failed'.
+// bytes that encode writes at once, whatever the sizes of the parts, as an iterator and as a stream; and what is refused, and when.
+// Prints 'N passed, M failed'.
 import { NDEFMessage, NDEFRecord, Ndef, NdefError, decodePrefix, encode, encodeParts, encodeStream } from "../../out/web/index.js";
 import code from "../../out/web/ndef_wasm.mjs";
 import { below, randomMessage } from "./random.mjs";
-import { bytesOf, finish, hexOf, same, test, thrown, throws } from "./tests.mjs";
+import { bytesOf, finish, hexOf, same, test, throws } from "./tests.mjs";
 
 const calls = await Ndef.load(code), many = Number(process.argv[2] ?? 100000);
-if (calls.lacks.has("ndef_writer_begin")) {
-    console.log("left out: parts of messages: the library of this release writes none");
-    await test("it says so", () => thrown(() => [...encodeParts("a")]).message.includes("an older version"));
-    finish();
-}
 
 // What an iterator gives, and with what it ends: the text of the error.
 function all(parts) {

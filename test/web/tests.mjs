@@ -29,7 +29,7 @@ export function same(told, wanted) {
 }
 
 // What a call throws.
-export function thrown(call) {
+function thrown(call) {
     try {
         call();
     } catch (error) {

@@ -219,8 +219,7 @@ await test("a record alone is a message, and one within a payload is checked wit
     same(hexOf(encode({ records: [{ recordType: "a.b:c", data: { records: [text] } }] })), recordHex("D4", "a.b:c", "D1010054"));
     same(throws(NdefError, () => encode({ records: [{ recordType: "smart-poster", data: { records: [EMPTY, text] } }] })).record, null);
 });
-// The library of release 0.2.0 doesn't say what is wanted.
-if (!calls.lacks.has("ndef_refusal_message")) await test("an error says what is wanted", () =>
+await test("an error says what is wanted", () =>
     same(throws(NdefError, () => encode({ records: [EMPTY, { tnf: 1, type: "T" }] })).sentence, "A text (`T`) has at least 1 octet; 0 were given."));
 await test("an error says what its reason means where payloads aren't checked", () => {
     const { sentence, reason } = throws(NdefError, () => encode({ records: [EMPTY, EMPTY] }, { records: 1, opaque: true }));

@@ -11,6 +11,10 @@
 
 #include "ndef.h"
 
+#if NDEF_VERSION_MAJOR != 1
+#error "the module for Java needs the library of version 1.0.0, or a later 1: the version of ndef.h is another"
+#endif
+
 #define METHOD(answer, name) JNIEXPORT answer JNICALL Java_org_simbegyor_ndef_Library_##name
 
 /* What `bytes` is asked for; the class Library has the same numbers. */
@@ -23,19 +27,6 @@ enum {
 enum { RECORDS, REFERENCES, ICONS, TITLE, MEDIA_TYPE, LINKS, FIELDS };
 enum { REASON_NAME, REASON_SENTENCE, FIELD_NAME, URI_PREFIX };
 enum { CHECKER_WORDS = sizeof(ndef_checker) / sizeof(uint64_t) };
-/* Whether the header declares ndef_refusal_message, ndef_hint and the calls for warnings: that of release 0.2.0 doesn't. */
-#define HAS_SENTENCES (NDEF_VERSION_MAJOR > 0 || NDEF_VERSION_MINOR >= 3)
-/* Whether it declares ndef_items, ndef_find_hint, and the calls for a record in steps. */
-#define HAS_ITEMS (NDEF_VERSION_MAJOR > 0 || NDEF_VERSION_MINOR >= 4)
-#define HAS_WRITERS HAS_ITEMS
-/* Release 0.3.0 has other names for some calls and a member. */
-#if !HAS_ITEMS
-#define ndef_refusal_message ndef_why
-#define ndef_field_warning ndef_field_remark
-#define ndef_record_warning ndef_record_remark
-#define NDEF_BUFFER_TOO_SMALL NDEF_NO_ROOM
-#define chunks pieces
-#endif
 
 /* ---- exceptions */
 
@@ -279,30 +270,6 @@ METHOD(jintArray, list)(JNIEnv *env, jclass type, jint call, jbyteArray one, jby
 
 /* ---- a message and all its records */
 
-#if !HAS_ITEMS
-typedef struct ndef_item {
-    uint32_t at, end, tnf, kind, type_at, type_length, id_length, payload_at, payload_length, chunks;
-    uint32_t form, number, language_at, language_length, text_at, text_length;
-} ndef_item;
-
-/* What ndef_items does, over the calls of older releases; but no item has a form. */
-static uint32_t ndef_items(const uint8_t *bytes, ndef_size length, const ndef_limits *limits, ndef_checked *out,
-                           ndef_item *items, ndef_size size) {
-    ndef_record it = { .end = 0 };
-    uint32_t status = ndef_check(bytes, length, limits, out);
-    if (status == NDEF_OK && out->records > size) return NDEF_BUFFER_TOO_SMALL;
-    for (ndef_size i = 0; status == NDEF_OK && i < out->records; i++) {
-        status = ndef_record_at(bytes, length, it.end, &it);
-        items[i] = (ndef_item){
-            (uint32_t)it.at, (uint32_t)it.end, it.tnf, ndef_kind(bytes, length, &it, 0), (uint32_t)it.type_at,
-            (uint32_t)it.type_length, (uint32_t)it.id_length, (uint32_t)it.payload_at, (uint32_t)it.payload_length,
-            (uint32_t)it.chunks, 0, 0, 0, 0, 0, 0
-        };
-    }
-    return status;
-}
-#endif
-
 enum { HEAD = 4, SHORT = 512 };
 
 /* A buffer of Java, an array of ints: what a check says, and the items of the records. */
@@ -391,7 +358,6 @@ METHOD(jlong, record)(JNIEnv *env, jclass type, jintArray how, jbyteArray name, 
 
 /* ---- records in steps */
 
-#if HAS_WRITERS
 enum { WRITER_WORDS = sizeof(ndef_writer) / sizeof(uint32_t) };
 
 /* A state, as the words that Java keeps. */
@@ -435,19 +401,6 @@ METHOD(jint, nextBytes)(JNIEnv *env, jclass type, jintArray state, jbyteArray na
     else (*env)->SetIntArrayRegion(env, state, 0, WRITER_WORDS, now.words);
     return (jint)count;
 }
-#else
-METHOD(jboolean, beginRecord)(JNIEnv *env, jclass type, jintArray how, jint name, jint id, jlong payload, jintArray state) {
-    (void)type, (void)how, (void)name, (void)id, (void)payload, (void)state;
-    raise(env, "java/lang/UnsupportedOperationException", "the library is older than 0.4.0, and writes no records in steps");
-    return JNI_FALSE;
-}
-
-METHOD(jint, nextBytes)(JNIEnv *env, jclass type, jintArray state, jbyteArray name, jbyteArray id, jbyteArray part, jint at,
-                        jint length, jbyteArray buffer, jint from, jint size) {
-    (void)env, (void)type, (void)state, (void)name, (void)id, (void)part, (void)at, (void)length, (void)buffer, (void)from, (void)size;
-    return -1;
-}
-#endif
 
 /* ---- what is written to a buffer */
 
@@ -479,12 +432,10 @@ static uint32_t call_library(const asked *what, const span *in, uint8_t *buffer,
         case WRITE_HANDOVER: return ndef_write_handover(first, 1, second, bytes, length, buffer, size, count);
         case WRITE_ALTERNATIVE:
             return ndef_write_alternative(first, bytes, length, what->parts, what->parts_count, buffer, size, count);
-#if HAS_SENTENCES
         case WHY: return ndef_refusal_message(bytes, length, &what->limits, buffer, size, count);
         case HINT: return ndef_hint(bytes, length, &what->limits, buffer, size, count);
         case FIELD_WARNING: return ndef_field_warning(first, bytes, length, buffer, size, count);
         case RECORD_WARNING: return ndef_record_warning(bytes, length, first, buffer, size, count);
-#endif
         default: return NDEF_BAD_ARGUMENT;
     }
 }
@@ -556,10 +507,7 @@ METHOD(jbyteArray, sentence)(JNIEnv *env, jclass type, jint call, jbyteArray byt
     asked what = { call, 0, 0, NULL, 0, { 0, 0, 0, 0 } };
     span in[2] = { find_all(env, bytes), find_all(env, NULL) };
     (void)type;
-    if (!HAS_SENTENCES)
-        raise(env, "java/lang/UnsupportedOperationException", "the library of release 0.2.0 has no sentences of bytes");
-    if ((*env)->ExceptionCheck(env) || !get_limits(env, limits, &what.limits)) return NULL;
-    return make(env, &what, in, NULL);
+    return get_limits(env, limits, &what.limits) ? make(env, &what, in, NULL) : NULL;
 }
 
 /* The sentence that the call writes of the field with these bytes and this number of a name, or of the record with this
@@ -568,29 +516,22 @@ METHOD(jbyteArray, warning)(JNIEnv *env, jclass type, jint call, jbyteArray byte
     const asked what = { call, (uint32_t)number, 0, NULL, 0, { 0, 0, 0, 0 } };
     span in[2] = { find_all(env, bytes), find_all(env, NULL) };
     (void)type;
-    if (!HAS_SENTENCES) raise(env, "java/lang/UnsupportedOperationException", "the library of release 0.2.0 has no warnings");
-    return (*env)->ExceptionCheck(env) ? NULL : make(env, &what, in, NULL);
+    return make(env, &what, in, NULL);
 }
 
 /* What may help where the bytes are refused: the number of the hint, the place and the length; NULL where nothing is known to. */
 METHOD(jintArray, hint)(JNIEnv *env, jclass type, jbyteArray bytes, jintArray words) {
-    jintArray told = NULL;
     ndef_limits limits;
+    ndef_found found;
     span in = find_all(env, bytes);
     (void)type;
-#if HAS_ITEMS
-    ndef_found found;
     if (!get_limits(env, words, &limits) || !hold(env, &in, 1)) return NULL;
     uint32_t status = ndef_find_hint(in.bytes, in.length, &limits, &found);
     release(env, &in, 1, JNI_ABORT);
     if (status != NDEF_OK) return NULL;
     const jint numbers[] = { (jint)found.hint, (jint)found.at, (jint)found.length };
-    told = (*env)->NewIntArray(env, 3);
+    jintArray told = (*env)->NewIntArray(env, 3);
     if (told != NULL) (*env)->SetIntArrayRegion(env, told, 0, 3, numbers);
-#else
-    (void)words, (void)limits, (void)in;
-    raise(env, "java/lang/UnsupportedOperationException", "the library of release 0.3.0 has no hints but their sentences");
-#endif
     return told;
 }
 

@@ -13,6 +13,9 @@ Octets = Any
 Size = Any
 Reference = Any
 
+# The first number of the version of ndef.h.
+VERSION_MAJOR = 1
+
 # What most calls return.
 OK = 0
 REFUSED = 1
@@ -296,11 +299,6 @@ class LaidOut(ctypes.Structure):
 # The calls that return nothing; the others return a number.
 WITHOUT_RESULT = ('default_limits',)
 
-# The names of calls in release 0.3.0, where they are others.
-OLD_NAMES = {
-    'default_limits': 'usual_limits', 'refusal_message': 'why', 'field_warning': 'field_remark', 'record_warning': 'record_remark',
-}
-
 
 class _Loaded:
     """The calls of a library that ctypes has loaded, each looked up when it is first asked for."""
@@ -309,12 +307,7 @@ class _Loaded:
         self._loaded = loaded
 
     def __getattr__(self, name: str) -> Any:
-        try:
-            call = getattr(self._loaded, 'ndef_' + name)
-        except AttributeError:
-            if name not in OLD_NAMES:
-                raise
-            call = getattr(self._loaded, 'ndef_' + OLD_NAMES[name])
+        call = getattr(self._loaded, 'ndef_' + name)
         call.restype = None if name in WITHOUT_RESULT else u32
         setattr(self, name, call)
         return call

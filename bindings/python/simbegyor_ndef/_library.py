@@ -112,11 +112,17 @@ _path = os.path.join(os.path.dirname(os.path.abspath(__file__)), library_name())
 
 
 def _loaded(load: Callable[[str], Any]) -> interface.Calls:
-    """The calls of the library: of the file for this processor, or where the loader knows none, of that beside this one."""
+    """The calls of the library: of the file for this processor, or where the loader knows none, of that beside this one.
+    ImportError where the module isn't made for its version."""
     try:
-        return interface.calls(load(asked_for(_path)))
+        found = interface.calls(load(asked_for(_path)))
     except OSError:
-        return interface.calls(load(_path))
+        found = interface.calls(load(_path))
+    version, major = found.version(), interface.VERSION_MAJOR
+    if version >> 16 != major:
+        raise ImportError('simbegyor_ndef needs the library for C of version %d.0.0, or a later %d; that at %s is %d.%d.%d'
+                          % (major, major, _path, version >> 16, version >> 8 & 255, version & 255))
+    return found
 
 
 try:
@@ -158,33 +164,12 @@ error = _short.error
 write_error = _short.write_error
 write_error_number = _short.write_error_number
 write_handover = _short.write_handover
-# The library of release 0.2.0 has no sentences about octets, and no warnings.
-has_sentences = hasattr(_long, 'refusal_message')
-has_warnings = hasattr(_long, 'record_warning')
-
-
-def items_of_none(octets: bytes, size: Any, within: Any, checked: Any, *_: Any) -> int:
-    """What the call `items` answers where there are fewer items than records; also with a library that lacks it."""
-    return check(octets, size, within, checked) or BUFFER_TOO_SMALL
-
-
-# The library of release 0.3.0 gives no message with its records.
-has_items = hasattr(_long, 'items')
-items: Any = _long.items if has_items else items_of_none
+items = _long.items
 # For octets that are few: no other thread runs meanwhile.
-items_short: Any = _short.items if has_items else items_of_none
-
-# Nor does it say by numbers what may help.
-has_found_hints = hasattr(_long, 'find_hint')
-
-# Nor does it check payloads by layouts.
-has_layouts = hasattr(_long, 'check_layout')
-check_layout: Any = _long.check_layout if has_layouts else None
-
-# Nor does it write records in steps.
-has_writers = hasattr(_long, 'writer_begin')
-writer_begin: Any = _short.writer_begin if has_writers else None
-writer_next: Any = _long.writer_next if has_writers else None
+items_short = _short.items
+check_layout = _long.check_layout
+writer_begin = _short.writer_begin
+writer_next = _long.writer_next
 
 
 @functools.lru_cache
@@ -358,7 +343,7 @@ def refused(checked: Checked, before: int = 0) -> DecodeError:
 def refused_octets(checked: Checked, octets: bytes, within: Any) -> DecodeError:
     """The error for a refusal of these octets within these limits, which has them for its sentence and its hint."""
     error = refused(checked)
-    error._refused = (octets, within) if has_sentences else None
+    error._refused = octets, within
     return error
 
 

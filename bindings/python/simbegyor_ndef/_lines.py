@@ -4,7 +4,6 @@ from __future__ import annotations
 import io
 from typing import Any, Callable, Dict, Iterator, List, Optional, Tuple, Union
 
-from . import _library as library
 from ._fields import Field, fields
 from ._sentences import field_warning, record_warnings
 from .errors import DecodeError
@@ -80,8 +79,8 @@ def checked(octets: bytes, as_json: bool) -> Iterator[Line]:
 
 
 def _remark(field: Field, accepted: bool) -> Optional[str]:
-    """What is strange in a field of a message that is accepted, if something is known to be, and the library has warnings."""
-    return field_warning(field.name, field.octets) if accepted and library.has_warnings else None
+    """What is strange in a field of a message that is accepted, if something is known to be."""
+    return field_warning(field.name, field.octets) if accepted else None
 
 
 def _field_lines(at: int, told: List[Field], accepted: bool) -> Iterator[str]:

@@ -14,10 +14,7 @@ _MOST_RECORDS = 64
 
 def why(octets: Octets, profile: str = 'strict') -> Optional[str]:
     """What was wanted where the octets are refused, in a sentence of English, or what the reason means where nothing more is
-    known; None where a message begins with the octets, and where there are none. `profile` is as for `fields`.
-
-    AttributeError where the library is that of release 0.2.0, which has no such sentences.
-    """
+    known; None where a message begins with the octets, and where there are none. `profile` is as for `fields`."""
     return _said(library.why, octets, profile)
 
 
@@ -29,10 +26,8 @@ def hint(octets: Octets, profile: str = 'strict') -> Optional[str]:
 
 
 def find_hint(octets: Octets, profile: str = 'strict') -> Optional[FoundHint]:
-    """What may help where the octets are refused, by its kind and the offset of a message. None where `hint` has no sentence.
-
-    AttributeError where the library is that of release 0.3.0 or older, which gives the sentence alone. The rest is as for `hint`.
-    """
+    """What may help where the octets are refused, by its kind and the offset of a message. None where `hint` has no sentence. The
+    rest is as for `hint`."""
     given, within = given_of(octets, profile)
     return library.find_hint(given, within) if given else None
 
@@ -47,7 +42,7 @@ def field_warning(name: str, octets: Octets) -> Optional[str]:
     """What is strange in a field of a message, in a sentence of English, by the name and the octets that `fields` gives of it; None
     where nothing is known to be strange.
 
-    ValueError where no field has the name, and AttributeError where the library is that of release 0.2.0, which has no warnings.
+    ValueError where no field has the name.
     """
     number = library.field_numbers().get(name)
     if number is None:
@@ -60,7 +55,7 @@ def record_warning(octets: Octets, index: int) -> Optional[str]:
     records: a title again in the same language, a request without an alternative carrier, a reference to no record, an id again. None
     where nothing is known to be strange, where there is no such record or no message, and where the message has more than 64 records.
 
-    ValueError where the index is below 0, and AttributeError where the library is that of release 0.2.0, which has no warnings.
+    ValueError where the index is below 0.
     """
     given, at = bytes_of(octets), operator.index(index)
     if at < 0:
@@ -74,7 +69,7 @@ field_remark, record_remark = field_warning, record_warning
 
 def record_warnings(octets: bytes, count: int) -> List[Tuple[int, str]]:
     """The warnings on the records of a message of `count` records: the number of each, from 1, and the sentence."""
-    if not library.has_warnings or count > _MOST_RECORDS:
+    if count > _MOST_RECORDS:
         return []
     found = ((number, library.record_warning(octets, number - 1)) for number in range(1, count + 1))
     return [(number, sentence) for number, sentence in found if sentence is not None]

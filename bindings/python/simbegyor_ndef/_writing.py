@@ -3,7 +3,7 @@ from __future__ import annotations
 
 import ctypes
 import itertools
-from typing import Iterable, Iterator, Tuple
+from typing import Any, Iterable, Iterator, Tuple
 
 from . import _library as library
 from .errors import EncodeError
@@ -48,7 +48,7 @@ class Outgoing:
     def _refusal(self, record: Record) -> EncodeError:
         """Why a decoder refuses the message with this record. The sentence is that of the record alone, where it is refused alone."""
         number, wanted = self.checked.reason, None
-        if library.has_sentences and record._is_kept:
+        if record._is_kept:
             alone, checked = record._written(library.FIRST | library.LAST, 0), library.Checked()
             library.check(alone, library.size_of(len(alone)), self.limits, library.byref(checked))
             wanted = library.why(alone, self.limits) if checked.reason == number else None
@@ -90,7 +90,8 @@ class _Writer:
         if self.size > record.MAX_PAYLOAD_SIZE:
             raise library.too_large(self.size, record.MAX_PAYLOAD_SIZE)
         kind_size, name_size = map(library.size_of, (len(kind), len(name)))
-        self.name, self.written, self._state = (kind, kind_size, name, name_size), 0, library.Writer()
+        self.name: Tuple[bytes, Any, bytes, Any] = kind, kind_size, name, name_size
+        self.written, self._state = 0, library.Writer()
         self.state = library.byref(self._state)
         if library.writer_begin(self.state, kind_size, name_size, library.size_of(self.size), library.writing(tnf, flags)) != library.OK:
             raise EncodeError('no record has these parts')
@@ -103,8 +104,6 @@ class _Writer:
 
 def in_parts(records: Iterable[Tuple[Record, int]], size: int, outgoing: Outgoing) -> Iterator[bytes]:
     """The octets of the records, each of which comes with its flags: this number in each part but the last."""
-    if not library.has_writers:
-        raise NotImplementedError('the library of this module is older than 0.4, and writes no message in parts')
     page = _Page(size)
     for record, flags in records:
         try:

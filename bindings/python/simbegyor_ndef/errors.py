@@ -15,7 +15,7 @@ class DecodeError(Exception):
     number: the number of the reason in ndef.h, 1 to 25; 0 where a record class of one's own refuses.
     sentence: what was wanted there, in a sentence of English, or what the reason means; the reason itself where its number is 0.
     hint: a sentence that may help, which names commands; None where nothing is known to.
-    found_hint: the same to a program, as `find_hint` gives it; None where nothing is known to help, or the library is older than 0.4.0.
+    found_hint: the same to a program, as `find_hint` gives it; None where nothing is known to help.
     fields: where `fields` raised it, the fields before that octet; else none.
 
     The sentence and both hints are made of the octets of the message when they are first asked for. Where a stream gave the
@@ -48,7 +48,7 @@ class DecodeError(Exception):
     def found_hint(self) -> Optional[FoundHint]:
         """What may help, to a program; None where nothing is known to."""
         from . import _library
-        return _library.find_hint(*self._refused) if self._refused and _library.has_found_hints else None
+        return _library.find_hint(*self._refused) if self._refused else None
 
     def __reduce__(self) -> Tuple[Any, ...]:
         """A copy has what is said of the octets, and not the octets."""

@@ -104,13 +104,13 @@ class AlternativeCarrierRecord(LocalRecord):
         made._power, made._reference, made.auxiliary_data_reference = parts.power, names[0], names[1:]
         return made
 
-    def told(self) -> AlternativeCarrier:
+    def _as_tuple(self) -> AlternativeCarrier:
         """The same as a named tuple."""
         return AlternativeCarrier(self.carrier_power_state, self._reference, list(self.auxiliary_data_reference))
 
     def __format__(self, form: str) -> str:
         if form == 'args':
-            return '%r, %r, %r' % self.told()
+            return '%r, %r, %r' % self._as_tuple()
         if form == 'data':
             auxiliary = ''.join(" Auxiliary '%s'" % name for name in self.auxiliary_data_reference)
             return "Power '%s' Reference '%s'%s" % (self.carrier_power_state, self._reference, auxiliary)
@@ -281,7 +281,7 @@ class _Handover(GlobalRecord):
     @property
     def alternative_carriers(self) -> List[AlternativeCarrier]:
         """The alternative carriers, each with its power state and the names of the records that it refers to."""
-        return [record.told() for record in self._records if isinstance(record, AlternativeCarrierRecord)]
+        return [record._as_tuple() for record in self._records if isinstance(record, AlternativeCarrierRecord)]
 
     def _place_of_error(self) -> int:
         """Where the first error record stands among the records, or the place after them."""

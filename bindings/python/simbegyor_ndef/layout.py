@@ -66,8 +66,6 @@ def _check(payload: bytes, fields: Any, out: interface.LaidOut) -> int:
 @functools.lru_cache
 def _array(fields: Tuple[LayoutField, ...]) -> Any:
     """The fields as the library takes them. It says whether they are a layout."""
-    if not library.has_layouts:
-        raise NotImplementedError('the library of this module is older than 0.4, and checks no layouts')
     array = (interface.LayoutField * len(fields))(*(interface.LayoutField(*field) for field in fields))
     if _check(b'', array, interface.LaidOut()) == library.BAD_ARGUMENT:
         raise ValueError('no layout has these fields: %r' % (fields,))

@@ -129,7 +129,7 @@ def lone_record(octets: bytes, desk: Desk, limits: Any, known: Known, told: Told
     elif count < U32_END:
         status = library.items(octets, size_of(count), limits, why, items, _FEW)
     else:
-        status = library.items_of_none(octets, size_of(count), limits, why)
+        status = library.check(octets, size_of(count), limits, why) or library.BUFFER_TOO_SMALL
     if status != OK:
         return None
     records, id_length, form, number, language_at, language_length, text_at, text_length = lone_item(block)
@@ -152,10 +152,10 @@ def _parts(item: Fields) -> Fields:
 
 def records_from(octets: bytes, desk: Desk, limits: Any, known: Known, told: Told) -> Iterator[Record]:
     """The records of a message of which the desk has what `lone_record` leaves there, and is free then. The message is walked where its places
-    don't fit items, and where the library has none."""
+    don't fit items."""
     checked, why, block, _, _, _ = desk
     count, size = checked.records, len(octets)
-    if size >= U32_END or not library.has_items:
+    if size >= U32_END:
         return records_of(octets, 0, checked.place, known, told)
     if count > FEW_ITEMS:
         block = library.new_block(count)

@@ -134,8 +134,7 @@ class Record:
     @classmethod
     def register_type(cls, record_class: Type['Record']) -> None:
         """Lets records of the class's `_type` be decoded by its `_decode_payload`. A poster's or a handover's class registers
-        for the records within it, any other for all messages. A `_layout` that is none is refused with TypeError or ValueError, and any
-        with NotImplementedError where the library is older than 0.4."""
+        for the records within it, any other for all messages. A `_layout` that is none is refused with TypeError or ValueError."""
         if not (isinstance(record_class, type) and issubclass(record_class, Record)):
             raise TypeError('a record class is needed, not %r' % (record_class,))
         layout.look_at(record_class._layout)

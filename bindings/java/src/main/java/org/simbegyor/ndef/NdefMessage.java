@@ -125,12 +125,8 @@ public final class NdefMessage {
 
     /** What was wanted where a record is refused: the library says so of the bytes up to its end. */
     private String sentence(int form, int chunk, int index, FormatException refusal) {
-        try {
-            byte[] bytes = bytes(form, chunk, 0, index + 1);
-            return limits.isOpaque() ? refusal.sentence() : Sentences.why(bytes, limits, profile).orElse(refusal.sentence());
-        } catch (UnsupportedOperationException older) {
-            return refusal.sentence();
-        }
+        byte[] bytes = bytes(form, chunk, 0, index + 1);
+        return limits.isOpaque() ? refusal.sentence() : Sentences.why(bytes, limits, profile).orElse(refusal.sentence());
     }
 
     /**
@@ -242,7 +238,6 @@ public final class NdefMessage {
      * record at most. Nothing has to be closed.
      *
      * @return a new stream of the bytes
-     * @throws UnsupportedOperationException if the native library is older than 0.4.0
      */
     public InputStream toInputStream() {
         return stream(0, 0);
@@ -256,7 +251,6 @@ public final class NdefMessage {
      * @return a new stream of the bytes
      * @throws RecordException if a reader of the message refuses it in this form: with too many chunks
      * @throws IllegalArgumentException if {@code chunk} is not 0 to 4294967295
-     * @throws UnsupportedOperationException if the native library is older than 0.4.0
      */
     public InputStream toInputStream(boolean hasLongLengths, long chunk) {
         if (chunk != (chunk & 0xffffffffL)) {

@@ -7,9 +7,6 @@ import java.util.Optional;
 /**
  * What was wanted where bytes are refused, and what may help; and what is strange in messages that are accepted: in
  * sentences of English. They are made of the bytes; the sentence of a {@link FormatException} says what its reason means.
- *
- * <p>Each method throws UnsupportedOperationException where the native library is that of release 0.2.0, which has no
- * such sentences.
  */
 public final class Sentences {
     private Sentences() {
@@ -82,7 +79,6 @@ public final class Sentences {
      * @param limits how large the message may be
      * @param profile what becomes of reserved values
      * @return the hint; none where {@link #hint(byte[], Limits, Profile)} has no sentence
-     * @throws UnsupportedOperationException if the native library is that of release 0.3.0 or older
      */
     public static Optional<FoundHint> findHint(byte[] bytes, Limits limits, Profile profile) {
         Objects.requireNonNull(bytes, "the bytes are null");
