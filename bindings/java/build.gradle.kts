@@ -5,11 +5,15 @@ plugins {
 }
 
 group = "org.simbegyor"
-version = "0.4.0-SNAPSHOT"
+version = "1.0.0"
 
 java {
     withSourcesJar()
     withJavadocJar()
+}
+
+repositories {
+    mavenCentral()
 }
 
 dependencies {
