@@ -108,7 +108,7 @@ made_faster := out/x86-64-v2/libndef.a
 header := include/ndef.h
 description := packaging/share/interface.json
 endif
-headers := $(addprefix $(dir $(header)),ndef.h ndef_names.h) include/ndef_0_3.h $(wildcard include/ndef*.hpp)
+headers := $(wildcard $(dir $(header))ndef*.h include/ndef*.hpp)
 faster := $(if $(made_faster),out/lib/libndef-v2.a)
 faster_library := $(if $(made_faster),out/lib/$(hwcaps)/$(notdir $(library)))
 
