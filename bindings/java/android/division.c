@@ -47,6 +47,13 @@ uint32_t __aeabi_uidiv(uint32_t number, uint32_t divisor) {
     return (uint32_t)simbegyor_divided(number, divisor, &rest);
 }
 
+/* By the ARM ABI the quotient is in the first register and the rest in the next: those of a number of 64 bits. */
+uint64_t __aeabi_uidivmod(uint32_t number, uint32_t divisor) {
+    uint64_t rest;
+    const uint32_t quotient = (uint32_t)simbegyor_divided(number, divisor, &rest);
+    return rest << 32 | quotient;
+}
+
 /* By the ARM ABI the quotient is in the first two registers, and the rest in the next two. */
 __attribute__((naked)) void __aeabi_uldivmod(void) {
     __asm__("push {r6, lr}\n\tsub sp, sp, #16\n\tadd r6, sp, #8\n\tstr r6, [sp]\n\tbl simbegyor_divided\n\t"
