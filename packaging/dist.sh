@@ -66,9 +66,11 @@ find_compiler() {
     stop "there is no C compiler ${CC:-cc} on the path: install one, as by 'apt install gcc', or name it with CC"
 }
 
-# Sets `commands` to the source of the commands for the machine of the compiler, and `faster` to that for x86-64-v2, or to nothing.
+# Sets `commands` to the source of the commands for the machine of the compiler, and `faster` to that for x86-64-v2, or to nothing. Where
+# there is commands.c, as in a test, it is that.
 find_commands() {
     faster=
+    [ ! -e "$top/dist/commands.c" ] || { commands=commands.c; return; }
     machine=$($cc -dumpmachine 2>/dev/null) || machine=$(uname -m)-$(uname -s)
     case $machine in
         x86_64*-linux-gnux32) ;;
