@@ -66,4 +66,9 @@ uint64_t __udivdi3(uint64_t number, uint64_t divisor) {
     uint64_t rest;
     return simbegyor_divided(number, divisor, &rest);
 }
+uint64_t __umoddi3(uint64_t number, uint64_t divisor) {
+    uint64_t rest;
+    simbegyor_divided(number, divisor, &rest);
+    return rest;
+}
 #endif
