@@ -336,6 +336,128 @@ static void records(void) {
     free(poster), free(titles), free(carriers);
 }
 
+/* Texts and URIs of more bytes than 16384, by the calls that read one payload (RTD Text 1.0, 3.2; RTD URI 1.0, 3.2), and in a smart poster. */
+static void long_ones(void) {
+    enum { LETTERS = 20000 };
+    static const char https[] = "https://";
+    static uint8_t poster[2 * LETTERS + 100];
+    const ndef_writing first = { NDEF_TNF_WELL_KNOWN, NDEF_WRITE_FIRST, 0 }, last = { NDEF_TNF_WELL_KNOWN, NDEF_WRITE_LAST, 0 };
+    ndef_checked why = { 7, 7, 7 };
+    ndef_text_parts text = { 0, 0, 0, 0, 0 };
+    ndef_uri_parts uri = { 0, 0, 0 };
+    ndef_poster_parts parts;
+    ndef_icon icon;
+    ndef_part part;
+    ndef_size count = 0, title = 0, whole = 0;
+    int same = 1;
+    memset(payload, 'a', sizeof payload), memcpy(payload, "\2en", 3);
+    expect(ndef_text(payload, 3 + LETTERS, &text, &why) == NDEF_OK && text.language_at == 1 && text.language_length == 2 && text.text_at == 3 && text.text_length == LETTERS
+           && !text.utf16, "a long text isn't read", text.text_at, text.text_length);
+    expect(ndef_text_in_utf8(payload, 3 + LETTERS, buffer, sizeof buffer, &count, &why) == NDEF_OK && count == LETTERS, "a long text isn't written", count, 0);
+    for (size_t i = 0; i < LETTERS; i++) same &= buffer[i] == 'a';
+    ndef_write_record((const uint8_t *)"T", 1, NULL, 0, payload, 3 + LETTERS, &first, poster, sizeof poster, &title);
+    payload[0] = 4, payload[1] = payload[2] = 'a';
+    expect(ndef_uri(payload, 1 + LETTERS, 0, buffer, sizeof buffer, &count, &why) == NDEF_OK && count == 8 + LETTERS && memcmp(buffer, https, 8) == 0,
+           "a long URI isn't read", count, 0);
+    for (size_t i = 0; i < LETTERS; i++) same &= buffer[8 + i] == 'a';
+    expect(same, "a long text or URI is another", 0, 0);
+    expect(ndef_split_uri(payload, 1 + LETTERS, 0, &uri, &why) == NDEF_OK && uri.code == 4 && uri.rest_at == 1 && uri.rest_length == LETTERS, "a long URI isn't split",
+           uri.rest_at, uri.rest_length);
+    ndef_write_record((const uint8_t *)"U", 1, NULL, 0, payload, 1 + LETTERS, &last, poster + title, sizeof poster - title, &count);
+    whole = title + count;
+    expect(ndef_poster(poster, whole, 0, &parts, &why) == NDEF_OK && why.place == 7, "a long poster isn't read", whole, why.place);
+    expect(ndef_title(poster, whole, (const uint8_t *)"en", 2, &text) == NDEF_OK && text.text_at == 10 && text.text_length == LETTERS, "a long title isn't found", text.text_at, 0);
+    expect(ndef_poster_titles(poster, whole, &text, 1, &count) == NDEF_OK && count == 1, "a long title isn't given", count, 0);
+    expect(ndef_poster_icons(poster, whole, &icon, 1, &count) == NDEF_OK && count == 0, "a poster of long records has an icon", count, 0);
+    expect(ndef_poster_media_type(poster, whole, &part) == NDEF_END, "a poster of long records has a media type", 0, 0);
+}
+
+/* A message is built on from what these calls wrote alone: from no other length or place of its last record (include/ndef.h). */
+static void built_on(void) {
+    const ndef_writing plain = { NDEF_TNF_EXTERNAL, 0, 0 }, wide = { NDEF_TNF_EXTERNAL, NDEF_WRITE_LONG, 0 }, reserved = { 6, 0, 0 };
+    ndef_message_builder state = { 0, 0, 0 };
+    ndef_size count = 0;
+    const uint8_t *b = (const uint8_t *)"b", *i = (const uint8_t *)"i";
+    expect(ndef_append(&state, b, 1, i, 1, b, 1, &plain, buffer, sizeof buffer, &count) == NDEF_OK, "a record isn't appended", 0, 0);
+    expect(ndef_append(&state, b, 1, i, 1, b, 1, &wide, buffer, sizeof buffer, &count) == NDEF_OK, "a long head isn't appended", 0, 0);
+    expect(ndef_append(&state, b, 1, i, 1, b, 1, &plain, buffer, sizeof buffer, &count) == NDEF_OK && count == 24 && state.last_at == 17, "a last record isn't appended",
+           count, state.last_at);
+    for (ndef_size length = 1; length <= count; length++)
+        for (ndef_size at = 0; at <= count; at++) {
+            ndef_message_builder other = { length, at, state.records };
+            if (length == state.length && at == state.last_at) continue;
+            expect(ndef_append(&other, b, 1, NULL, 0, NULL, 0, &plain, buffer, sizeof buffer, &count) == NDEF_BAD_ARGUMENT && other.length == length,
+                   "a message is built on from elsewhere", length, at);
+        }
+    expect(ndef_append(&state, NULL, 0, NULL, 0, NULL, 0, &reserved, buffer, sizeof buffer, &count) == NDEF_BAD_ARGUMENT, "the type name format 6 is appended", 0, 0);
+}
+
+/* The data of an error have one byte for the reasons 1 and 3, four for 2 (Connection Handover 1.2, Error record). */
+static void error_data(void) {
+    static const size_t fitting[] = { 0, 1, 4, 1 };
+    for (uint32_t reason = 1; reason < 4; reason++)
+        for (size_t length = 0; length < 7; length++) {
+            const ndef_select_writing how = { { 0, length }, 2, 1, reason };
+            ndef_size count = 0;
+            const uint32_t status = ndef_write_select(&how, (const uint8_t *)"abcdefg", 7, NULL, 0, NULL, 0, buffer, sizeof buffer, &count);
+            expect(length == fitting[reason] ? status == NDEF_OK && count == 8 + length && buffer[7] == reason && memcmp(buffer + 8, "abcdefg", length) == 0
+                                             : status == NDEF_BAD_ARGUMENT, "an error with other data is written", reason, length);
+        }
+}
+
+/* Each auxiliary reference of an alternative carrier within a request, after its length (Connection Handover 1.2, Alternative Carrier record). */
+static void auxiliaries(void) {
+    static const ndef_part references[] = { { 0, 1 }, { 1, 2 }, { 3, 0 }, { 3, 3 } };
+    static const ndef_alternative_writing carrier = { 0, 4, 1 };
+    static const char whole[] = "\x12\x91\2\2cr\0\7\x51\2\x0c" "ac\1\1a\3\2bc\0\3def";
+    ndef_size count = 0;
+    expect(ndef_write_request(2, 7, (const uint8_t *)"abcdef", 6, references, 4, &carrier, 1, buffer, sizeof buffer, &count) == NDEF_OK && count == sizeof whole - 1
+           && memcmp(buffer, whole, sizeof whole - 1) == 0, "a carrier with three auxiliary references is written in another way", count, 0);
+}
+
+/* The sentences ask what a check of payloads asks, so no limits with NDEF_OPAQUE (include/ndef.h). */
+static void sentences(void) {
+    static const char *const proxmarks[] = { "[=] 04 | 03 10 D1 01\n", "[+] 04 | 03 10 D1 01\n", "[usb] pm3 --> hf mfu dump\n" };
+    static const char octets[] = "4294967295 octets of the payload are missing.";
+    ndef_limits limits = { 4294967295u, 1, 1, 0 };
+    ndef_found found = { 0, 0, 0 };
+    ndef_size count = 77;
+    for (size_t i = 0; i < 3; i++)
+        expect(ndef_find_hint((const uint8_t *)proxmarks[i], strlen(proxmarks[i]), &limits, &found) == NDEF_OK && found.hint == NDEF_HINT_PROXMARK, "a line of a Proxmark isn't known",
+               i, found.hint);
+    expect(ndef_refusal_message((const uint8_t *)"\xc5\0\xff\xff\xff\xff", 6, &limits, buffer, sizeof buffer, &count) == NDEF_OK && count == sizeof octets - 1
+           && memcmp(buffer, octets, count) == 0, "the longest payload is missing in another way", count, 0);
+    count = 77;
+    for (limits.flags = NDEF_OPAQUE; limits.flags <= (NDEF_OPAQUE | NDEF_STANDARD); limits.flags++) {
+        expect(ndef_refusal_message((const uint8_t *)"a", 1, &limits, buffer, sizeof buffer, &count) == NDEF_BAD_ARGUMENT, "a refusal has a sentence with a flag", limits.flags, 0);
+        expect(ndef_hint((const uint8_t *)"a", 1, &limits, buffer, sizeof buffer, &count) == NDEF_BAD_ARGUMENT, "a hint has a sentence with a flag", limits.flags, 0);
+        expect(ndef_find_hint((const uint8_t *)"a", 1, &limits, &found) == NDEF_BAD_ARGUMENT, "a hint is found with a flag", limits.flags, 0);
+    }
+    static const ndef_limits wrong[] = { { 0, 1, 1, 0 }, { 1, 0, 1, 0 }, { 1, 65536, 1, 0 }, { 1, 1, 0, 0 }, { 1, 1, 65536, 0 }, { 1, 1, 1, 4 } };
+    for (size_t i = 0; i < sizeof wrong / sizeof *wrong; i++) {
+        expect(ndef_refusal_message((const uint8_t *)"a", 1, &wrong[i], buffer, sizeof buffer, &count) == NDEF_BAD_ARGUMENT, "a refusal has a sentence with a wrong limit", i, 0);
+        expect(ndef_hint((const uint8_t *)"a", 1, &wrong[i], buffer, sizeof buffer, &count) == NDEF_BAD_ARGUMENT, "a hint has a sentence with a wrong limit", i, 0);
+        expect(ndef_find_hint((const uint8_t *)"a", 1, &wrong[i], &found) == NDEF_BAD_ARGUMENT, "a hint is found with a wrong limit", i, 0);
+    }
+    expect(count == 77, "a wrong flag or limit leaves something", count, 0);
+}
+
+/* A message whose chunks are empty but for one, in two parts that meet after each byte, with each of the flags (NDEF 1.0, 2.3.3). */
+static void in_two_parts(void) {
+    static const char empty[] = "\xb5\0\0\x36\0\1x\x36\0\0\x56\0\0";
+    for (uint32_t flags = 0; flags <= (NDEF_STANDARD | NDEF_OPAQUE); flags++)
+        for (size_t at = 0; at < sizeof empty; at++) {
+            const ndef_limits limits = { 1, 1, 4, flags };
+            ndef_checker checker;
+            ndef_checked told = { 0, 0, 0 };
+            ndef_begin(&limits, &checker);
+            uint32_t status = ndef_feed(&checker, (const uint8_t *)empty, at, &told);
+            expect(status == (at + 1 < sizeof empty ? (uint32_t)NDEF_MORE : (uint32_t)NDEF_OK), "a part of empty chunks is answered in another way", at, flags);
+            status = ndef_feed(&checker, (const uint8_t *)empty + at, sizeof empty - 1 - at, &told);
+            expect(status == NDEF_OK && told.place == sizeof empty - 1 && told.records == 1, "a message of empty chunks is refused", at, flags);
+        }
+}
+
 /* PAYLOAD_LENGTH has four octets, so no payload has 4294967296 bytes: each is refused at its first octet, and none is written. */
 static void lengths(void) {
     const ndef_size most = 4294967295u;
@@ -350,6 +472,8 @@ static void lengths(void) {
     ndef_poster_parts poster;
     ndef_request_parts request;
     ndef_select_parts select;
+    const ndef_layout_field rest = { NDEF_LAYOUT_REST, 0, 0 };
+    ndef_laid_out laid;
     ndef_size count = 0;
     if (sizeof(size_t) < 8) return;
     uint8_t *bytes = mmap(NULL, (size_t)(most + 4096), PROT_READ, MAP_PRIVATE | MAP_ANONYMOUS | MAP_NORESERVE, -1, 0);
@@ -364,6 +488,11 @@ static void lengths(void) {
     expect(ndef_reference(bytes, most + 1, 0, &part) == NDEF_BAD_ARGUMENT, "a long carrier has a reference", 0, 0);
     expect(ndef_references(bytes, most + 1, NULL, 0, &count) == NDEF_BAD_ARGUMENT, "a long carrier has references", 0, 0);
     expect(ndef_links(bytes, 0, bytes, most + 1, NULL, 0, &count) == NDEF_BAD_ARGUMENT, "a long handover has links", 0, 0);
+    expect(ndef_title(bytes, most + 1, NULL, 0, &text) == NDEF_BAD_ARGUMENT, "a long poster has a title", 0, 0);
+    expect(ndef_poster_titles(bytes, most + 1, NULL, 0, &count) == NDEF_BAD_ARGUMENT, "a long poster has titles", 0, 0);
+    expect(ndef_poster_icons(bytes, most + 1, NULL, 0, &count) == NDEF_BAD_ARGUMENT, "a long poster has icons", 0, 0);
+    expect(ndef_poster_media_type(bytes, most + 1, &part) == NDEF_BAD_ARGUMENT, "a long poster has a media type", 0, 0);
+    expect(ndef_check_layout(bytes, most + 1, &rest, 1, &laid) == NDEF_REFUSED && laid.place == 0 && laid.length_fits == 0, "a long payload has a layout", laid.place, 0);
     expect(ndef_write_record(NULL, 0, NULL, 0, bytes, most + 1, &how, NULL, 0, &count) == NDEF_BAD_ARGUMENT, "a long payload is written", 0, 0);
     expect(ndef_write_record(NULL, 0, NULL, 0, bytes, most, &how, NULL, 0, &count) == NDEF_BUFFER_TOO_SMALL && count == most + 6, "the longest payload isn't written", 0, 0);
     expect(ndef_write_error(9, bytes, most, buffer, sizeof buffer, &count) == NDEF_BAD_ARGUMENT, "a long error is written", 0, 0);
@@ -374,10 +503,19 @@ static void lengths(void) {
     const ndef_poster_writing of = { { 0, 1 }, { 0, 0 }, 0, 0, 0, 0, 0 };
     const ndef_icon_writing icons[2] = { { { 0, 1 }, { 0, most / 2 } }, { { 0, 1 }, { 0, most / 2 } } };
     expect(ndef_write_poster(bytes, most, &of, NULL, 0, icons, 2, NULL, 0, &count) == NDEF_BAD_ARGUMENT, "a long poster is written", 0, 0);
+    const ndef_select_writing long_data = { { 0, most }, 2, 1, 9 };
+    expect(ndef_write_select(&long_data, bytes, most, NULL, 0, NULL, 0, NULL, 0, &count) == NDEF_BAD_ARGUMENT, "a select with a long error is written", 0, 0);
+    munmap(bytes, (size_t)(most + 4096));
+    /* A record of two chunks of two gigabytes, more than a record in one piece can have. */
+    bytes = mmap(NULL, (size_t)(most + 4096), PROT_READ | PROT_WRITE, MAP_PRIVATE | MAP_ANONYMOUS | MAP_NORESERVE, -1, 0);
+    if (bytes == MAP_FAILED) return;
+    memcpy(bytes, "\xa5\0\x80\0\0\0", 6), memcpy(bytes + 6 + 2147483648u, "\x46\0\x80\0\0\0", 6);
+    expect(ndef_normalize(bytes, most + 13, 0, NULL, 0, &count) == NDEF_BAD_ARGUMENT, "a record of four gigabytes is joined", 0, 0);
     munmap(bytes, (size_t)(most + 4096));
 }
 
 int main(void) {
-    texts(), sequences(), units(), pieces(), references(), parts(), series(), appended(), nothing(), records(), lengths();
+    texts(), sequences(), units(), pieces(), references(), parts(), series(), appended(), nothing(), records(), long_ones(), built_on(), error_data(), auxiliaries(), sentences(),
+        in_two_parts(), lengths();
     return failed != 0;
 }

@@ -46,18 +46,23 @@ def outcomes(source, line):
     return numbers[:count - len(labels)] + labels if len(labels) <= count else numbers
 
 
+def past_labels(source, at):
+    """The line with this index, or the first after it that is no label."""
+    return next((line for line in source[at:] if not re.fullmatch(r'\s*L\d+:;', line)), '')
+
+
 def after_label(source, number, label):
     """The line that follows a label of the function in which a line stands."""
     start = next((at for at in range(number - 1, -1, -1) if source[at] == '}'), 0)
     at = next(at for at in range(start, len(source)) if source[at].startswith(label + ':;'))
-    return source[at + 1]
+    return past_labels(source, at + 1)
 
 
 def ends_at(source, number, outcome):
     """The line with which a branch of a generated file goes on, or '' where its own line says no label."""
     text = source[number - 1].strip()
     if outcome == 'false':
-        return source[number] if text.startswith('if') else ''
+        return past_labels(source, number) if text.startswith('if') else ''
     if outcome != 'true':
         text = next((line.strip() for line in source[number:number + 100] if line.strip().startswith(outcome + ':')), '')
     label = re.search(r'(?:^if .*\)|:) goto (L\d+);', text)

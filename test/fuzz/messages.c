@@ -10,7 +10,7 @@
 #include <stdlib.h>
 #include <string.h>
 
-enum { MOST = 4096, LINES = 8192 };
+enum { MOST = 4096, LINES = 16384 };
 static uint8_t *lines[LINES], message[2 * MOST];
 static size_t lengths[LINES], count, length;
 static uint64_t state;

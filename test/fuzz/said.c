@@ -126,9 +126,10 @@ int main(void) {
         if (length > MOST || fread(message, 1, length, stdin) != length) return 2;
         messages++;
         for (uint32_t flags = 0; flags <= NDEF_STANDARD; flags += NDEF_STANDARD) {
-            const ndef_limits usual = { 1048576, 1024, 4096, flags }, small = { 20, 2, 2, flags };
+            const ndef_limits usual = { 1048576, 1024, 4096, flags }, small = { 20, 2, 2, flags }, least = { 20, 1, 1, flags };
             look(&usual);
             if (messages % 8 == 0) look(&small);
+            if (messages % 8 == 4) look(&least);
         }
     }
     printf("%llu sentences of %llu messages\n", sentences, messages);
