@@ -67,7 +67,7 @@ $(foreach name,$(if $(installing),DESTDIR PREFIX LIBDIR PYTHONDIR),$(if $(call i
 # What a goal needs besides: the goal, the program, and its package in Debian.
 needs = $(if $(filter $(1),$(MAKECMDGOALS)),$(if $(shell command -v $(2) 2>/dev/null),,\
     $(error make $(1) needs $(2): install it, as by 'apt install $(3)')))
-$(foreach goal,install install-library deb debian web,$(call needs,$(goal),python3,python3))
+$(foreach goal,check check-all install install-library deb debian web,$(call needs,$(goal),python3,python3))
 $(foreach goal,wheel sdist,$(call needs,$(goal),$(PYTHON),python3))
 $(foreach program,dpkg-deb dpkg-shlibdeps,$(call needs,deb,$(program),dpkg-dev))
 
