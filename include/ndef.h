@@ -36,8 +36,8 @@
 #include <stdint.h>
 
 /* The version of this header. */
-#define NDEF_VERSION_MAJOR 0
-#define NDEF_VERSION_MINOR 4
+#define NDEF_VERSION_MAJOR 1
+#define NDEF_VERSION_MINOR 0
 #define NDEF_VERSION_PATCH 0
 
 /* A length, or the offset of a byte counted from 0. It has 64 bits on every machine, since the library is compiled

@@ -135,7 +135,7 @@ NDEF_INLINE const char *ndef_field_text(uint32_t name) {
     switch (name) { NDEF_FIELDS(NDEF_TEXT_CASE) default: return "unknown"; }
 }
 
-/* The version of this header as text: NDEF_VERSION_STRING is "0.4.0.dev". ndef_version_string returns it, and ndef_version
+/* The version of this header as text: NDEF_VERSION_STRING is "1.0.0". ndef_version_string returns it, and ndef_version
  * gives the version of the library, which is another where the program runs with another shared library. */
 #define NDEF_DIGITS(number) #number
 #define NDEF_VERSION_TEXT(major, minor, patch) NDEF_DIGITS(major) "." NDEF_DIGITS(minor) "." NDEF_DIGITS(patch)

@@ -4,7 +4,7 @@
  * The functions here are compiled into the program that calls them, and a program that calls none has none of these
  * texts. Each returns a string that ends with NUL and stays valid as long as the program runs; it never returns NULL.
  * The strings are what ndef_reason_name, ndef_reason_sentence, ndef_status_name and ndef_field_name of the library
- * write to a room; those calls serve programs that don't read this header. */
+ * write to a buffer; those calls serve programs that don't read this header. */
 #ifndef NDEF_NAMES_H
 #define NDEF_NAMES_H
 
@@ -30,13 +30,13 @@ enum ndef_field_names {
     NDEF_FIELD_MARK = 10,                /* of a text in UTF-16 */
     NDEF_FIELD_TEXT = 11,
     NDEF_FIELD_URI_CODE = 12,            /* of a URI */
-    NDEF_FIELD_URI_REST = 13,            /* after the prefix for which the code stands */
+    NDEF_FIELD_URI_REST = 13,            /* after the prefix of the code */
     NDEF_FIELD_ACTION = 14,              /* of a smart poster */
     NDEF_FIELD_SIZE = 15,                /* of a smart poster */
     NDEF_FIELD_MEDIA_TYPE = 16,          /* of a smart poster */
     NDEF_FIELD_VERSION = 17,             /* of a handover */
     NDEF_FIELD_COLLISION = 18,           /* of a collision resolution */
-    NDEF_FIELD_POWER = 19,               /* of an alternative carrier, as the next six */
+    NDEF_FIELD_POWER = 19,               /* of an alternative carrier, like the next six */
     NDEF_FIELD_REFERENCE_LENGTH = 20,
     NDEF_FIELD_REFERENCE = 21,
     NDEF_FIELD_AUXILIARY_COUNT = 22,
@@ -45,7 +45,7 @@ enum ndef_field_names {
     NDEF_FIELD_AFTER_AUXILIARY = 25,     /* the bytes after the references */
     NDEF_FIELD_ERROR_REASON = 26,        /* of a handover's error */
     NDEF_FIELD_ERROR_DATA = 27,
-    NDEF_FIELD_CARRIER_FORMAT = 28,      /* of a handover carrier, as the next three */
+    NDEF_FIELD_CARRIER_FORMAT = 28,      /* of a handover carrier, like the next three */
     NDEF_FIELD_CARRIER_TYPE_LENGTH = 29, NDEF_FIELD_CARRIER_TYPE = 30, NDEF_FIELD_CARRIER_DATA = 31
 };
 
@@ -67,8 +67,8 @@ enum ndef_field_names {
 
 /* The list of what most calls return, as NDEF_REASONS: NDEF_STATUSES(X) is X(number, name, text) for each. */
 #define NDEF_STATUSES(X) \
-    X(0, OK, "Ok") X(1, REFUSED, "Refused") X(2, NO_ROOM, "NoRoom") X(3, BAD_ARGUMENT, "BadArgument") \
-    X(4, END, "End") X(5, MORE, "More")
+    X(0, OK, "Ok") X(1, REFUSED, "Refused") X(2, BUFFER_TOO_SMALL, "BufferTooSmall") \
+    X(3, BAD_ARGUMENT, "BadArgument") X(4, END, "End") X(5, MORE, "More")
 
 /* The list of what reasons mean: NDEF_SENTENCES(X) is X(number, name, sentence) for each. ndef-explain prints these. */
 #define NDEF_SENTENCES(X) \
@@ -93,7 +93,7 @@ enum ndef_field_names {
     X(20, URI_MISSING, "A smart poster has to have a URI record.") \
     X(21, URI_AGAIN, "A smart poster has only one URI record.") \
     X(22, VERSION, "The handover has another major version than 1.") \
-    X(23, DOES_NOT_FIT, "Nothing that may stand here fits the lengths that were given before.") \
+    X(23, DOES_NOT_FIT, "Nothing that could follow this byte fits the lengths given so far.") \
     X(24, END_OF_INPUT, "The input ends within a message.") \
     X(25, COLLISION_MISSING, "A handover request has to begin with a collision resolution record.")
 
@@ -125,7 +125,7 @@ NDEF_INLINE const char *ndef_sentence_text(uint32_t reason) {
     switch (reason) { NDEF_SENTENCES(NDEF_TEXT_CASE) default: return "unknown"; }
 }
 
-/* Returns the name of an ndef_status, such as "NoRoom", or "unknown" for another number. */
+/* Returns the name of an ndef_status, such as "BufferTooSmall", or "unknown" for another number. */
 NDEF_INLINE const char *ndef_status_text(uint32_t status) {
     switch (status) { NDEF_STATUSES(NDEF_TEXT_CASE) default: return "unknown"; }
 }
@@ -135,7 +135,7 @@ NDEF_INLINE const char *ndef_field_text(uint32_t name) {
     switch (name) { NDEF_FIELDS(NDEF_TEXT_CASE) default: return "unknown"; }
 }
 
-/* The version of this header as text: NDEF_VERSION_STRING is "0.3.0". ndef_version_string returns it, and ndef_version
+/* The version of this header as text: NDEF_VERSION_STRING is "1.0.0". ndef_version_string returns it, and ndef_version
  * gives the version of the library, which is another where the program runs with another shared library. */
 #define NDEF_DIGITS(number) #number
 #define NDEF_VERSION_TEXT(major, minor, patch) NDEF_DIGITS(major) "." NDEF_DIGITS(minor) "." NDEF_DIGITS(patch)

@@ -5,7 +5,7 @@ use ndef_cli::Page;
 pub(crate) fn page_text(page: Page) -> &'static [u8] {
     match page {
         Page::Help => HELP,
-        Page::Version => b"ndef 0.4.0.dev\n",
+        Page::Version => b"ndef 1.0.0\n",
     }
 }
 

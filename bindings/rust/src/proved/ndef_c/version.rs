@@ -2,9 +2,9 @@
 //! The version of the library.
 
 /// The first number of the version that the file VERSION has.
-pub const MAJOR: u32 = 0;
+pub const MAJOR: u32 = 1;
 /// Its second number, 0 to 255.
-pub const MINOR: u32 = 4;
+pub const MINOR: u32 = 0;
 /// Its third number, 0 to 255.
 pub const PATCH: u32 = 0;
 
