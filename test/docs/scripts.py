@@ -413,12 +413,13 @@ def made_of(copy):
     yield from expect(copy.run('packaging/made_of'), 0, 'crates\n')
 
 
-# Words of each script, and what it reads then from a terminal.
-READS = {('ndef', 'show'): 'a message', ('ndef', 'check'): 'a message', ('ndef', 'encode', '--hex'): 'a message', ('ndef', '--help'): None,
-         ('ndef',): None, ('ndef-make', 'text', 'x'): None, ('ndef-make', 'uri', 'x'): None, ('ndef-make', '--help'): None,
+# Words of each script, and what it says then that it reads from a terminal. Of `ndef` the program says so.
+READS = {('ndef', 'show'): None, ('ndef', '--help'): None, ('ndef',): None, ('ndef-make', 'text', 'x'): None, ('ndef-make', 'uri', 'x'): None,
+         ('ndef-make', '--help'): None, ('ndef-make', 'text', 'media', '--hex'): None,
          ('ndef-make', 'record', '--tnf', '5'): 'the payload of the record',
          ('ndef-make', 'carrier', '--format', '1', '--type', 'a'): 'the payload of the record',
-         ('ndef-make', 'text', 'x', '--and', 'record', '--tnf', '5'): 'the payload of the record', ('ndef-explain', '--hex'): 'messages'}
+         ('ndef-make', 'text', 'x', '--and', 'record', '--tnf', '5'): 'the payload of the record', ('ndef-explain', '--hex'): 'messages',
+         ('ndef-explain',): 'messages', ('ndef-explain', '-'): 'messages', ('ndef-explain', '--json', 'tag'): None, ('ndef-explain', '--help'): None}
 
 
 def on_a_terminal(copy):
