@@ -1,6 +1,6 @@
 // NDEF messages for JavaScript, in the shape of Web NFC. README.md says what each name is for.
 
-/** Bytes: an ArrayBuffer, or a view of one, of which its own bytes count. Anything else is a TypeError. */
+/** Bytes: an ArrayBuffer or a SharedArrayBuffer, or a view of one, of which its own bytes count. Anything else is a TypeError. */
 export type Bytes = ArrayBuffer | ArrayBufferView;
 
 /** A name, which is a string where its bytes are UTF-8, as they should be, and else the bytes. */
@@ -60,7 +60,7 @@ export interface NDEFRecordInitOfWebNfc {
     /** Of a text: "utf-8", "utf-16", "utf-16be" or "utf-16le"; another is a TypeError. */
     encoding?: "utf-8" | "utf-16" | "utf-16be" | "utf-16le" | null;
     lang?: string | null;
-    /** Of a url and an absolute URL a URL object, too. */
+    /** Of a url and an absolute URL a URL object, too. Another object that has `href` is a TypeError. */
     data?: string | Bytes | { readonly href: string } | NDEFMessageInit | null;
 }
 
@@ -110,7 +110,10 @@ export class NDEFRecord {
     readonly encoding: "utf-8" | "utf-16be" | null;
     readonly lang: string | null;
     readonly data: DataView | null;
-    /** The records of the message within; null where the payload is no message. */
+    /**
+     * The records of the message within; null for an external or local type whose payload is no message. A DOMException (NotSupportedError)
+     * for types that hold no records, as a text.
+     */
     toRecords(): TypedRecord[] | null;
     /** What NDEFReader.write of Web NFC takes for this record. */
     toInit(): WritableRecord;
@@ -131,7 +134,7 @@ export class NDEFRecord {
      * of the record in a message, unchecked.
      */
     toBytes(flags?: number): Uint8Array;
-    /** What JSON.stringify makes of it: its members that aren't null, and its payload in hexadecimal digits. */
+    /** What JSON.stringify makes of it: these members where they aren't null, and the payload in hexadecimal digits. */
     toJSON(): RecordJson;
 }
 
