@@ -5,7 +5,7 @@ plugins {
 }
 
 group = "org.simbegyor"
-version = "1.0.0"
+version = "1.1.0-SNAPSHOT"
 
 java {
     withSourcesJar()
