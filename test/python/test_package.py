@@ -47,9 +47,9 @@ class Package(unittest.TestCase):
     @unittest.skipUnless(MAKER, 'no Python here has pip')
     def test_the_wheel(self):
         with tempfile.TemporaryDirectory() as folder:
-            pip = [MAKER, '-m', 'pip', '--disable-pip-version-check']
+            pip, made_of = [MAKER, '-m', 'pip', '--disable-pip-version-check'], (TOP / 'out/from').read_text().strip()
             made = subprocess.run([*pip, 'wheel', str(TOP), '--no-deps', '--no-index', '-w', folder],
-                                  env={**os.environ, 'NDEF_LIB_DIR': str(TOP / 'out/lib')}, stdout=subprocess.PIPE, stderr=subprocess.STDOUT)
+                                  env={**os.environ, 'NDEF_LIB_DIR': str(TOP / 'out/lib'), 'NDEF_FROM': made_of}, stdout=subprocess.PIPE, stderr=subprocess.STDOUT)
             self.assertEqual(made.returncode, 0, made.stdout.decode())
             (wheel,) = pathlib.Path(folder).glob('simbegyor_ndef-%s-py3-none-*.whl' % ndef.__version__)
             target = str(pathlib.Path(folder, 'target'))
