@@ -14,8 +14,9 @@ import time
 import simbegyor_ndef as ndef
 from simbegyor_ndef import _library as library
 
-# The most lines of Python, and the most blocks of the library, for each byte of a message and 64 more.
-MOST_LINES, MOST_BLOCKS = 100, 600
+# The most lines of Python, and the most blocks of the library, for each byte of a message and 64 more. All that is done here with a record of
+# three bytes takes some 370 lines, whatever the number of records.
+MOST_LINES, MOST_BLOCKS = 150, 600
 # The least messages a second; one in twenty at least is taken, and one in twenty refused.
 LEAST = 10
 MODULE = str(pathlib.Path(ndef.__file__).parent)
@@ -67,7 +68,7 @@ def look_at(octets):
     """Reads a message, and compares it with what the library says. Whether it is taken."""
     checked = library.Checked()
     limits = library.limits(ndef.Record.MAX_PAYLOAD_SIZE, 0)
-    status = library.check(octets, library.SIZES[len(octets)], limits, library.byref(checked)) if octets else library.OK
+    status = library.check(octets, library.size_of(len(octets)), limits, library.byref(checked)) if octets else library.OK
     records, error = decoded(octets)
     hold((error is None) == (status == library.OK), 'a message is taken where the library takes it', octets)
     hold(error is None or error == (checked.reason, checked.place), 'the refusal is the library\'s', octets)
