@@ -3,7 +3,7 @@
  *     messages SEED COUNT < LINES
  *
  * LINES are lines of hexadecimal digits, as the bytes of the cases and the corpus of test/fuzz. A message is a line, or two of them one
- * after the other, with up to six changes: a bit, a byte, bytes less, bytes twice, or a length. The same seed gives the same messages.
+ * after the other, with up to six changes: a bit, a byte, a byte one more or less, bytes less, or bytes twice. The same seed gives the same messages.
  * COUNT 0 has no end. With the seed 0 they are the lines, in order and unchanged. */
 #include <stdint.h>
 #include <stdio.h>
