@@ -41,11 +41,6 @@ mark_of bytes at e =
     let is = o.is in
     record { within = o.within; is_set = omega (arith, is, one) }
 
--- where there are bytes the message is there
-pub built_of : (h : Holding) → MayBeGrown h → 0 < h.builder.length → IsBuilt h
-built_of h (inl u) some = let n = u.length_is in absurd (omega (arith, n, some))
-built_of h (inr b) some = b
-
 -- the octet that is cleared
 pub record Cleared (buffer : List ℕ) (builder : NdefMessageBuilder) : Type 0 where
   pub before : builder.last_at < builder.length

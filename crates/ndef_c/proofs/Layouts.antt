@@ -252,15 +252,6 @@ within_goes field least most more s is fits above below =
     go [] fits above below = absurd (omega (arith, fits.0))
     go (x ∷ s) fits above below = after_within least most more x s above below fits
 
-pub within_refused : (field : Field) (least most : ℕ) (more : List Field) (s : List ℕ) → field ≡ fields.Within least most → HasLaidLength (field ∷ more) (length s)
-    → ((least ≤ get_or s 0 0) × (get_or s 0 0 ≤ most) → ⊥) → IsRefusedFirst (field ∷ more) s
-within_refused field least most more s is fits out =
-    subst (λ f. IsRefusedFirst (f ∷ more) s) (sym is) (go s (subst (λ f. HasLaidLength (f ∷ more) (length s)) is fits) out)
-  where
-    go : (s : List ℕ) → HasLaidLength (fields.Within least most ∷ more) (length s) → ((least ≤ get_or s 0 0) × (get_or s 0 0 ≤ most) → ⊥) → IsRefusedFirst (fields.Within least most ∷ more) s
-    go [] fits out = absurd (omega (arith, fits.0))
-    go (x ∷ s) fits out = not_within least most more x s out
-
 pub counted_goes : (field : Field) (more : List Field) (s : List ℕ) (n : ℕ) → field ≡ fields.Counted → AreOctets s → n ≡ get_or s 0 0 → HasLaidLength (field ∷ more) (length s)
     → n ≤ length (rest_from 1 s) → HasLaidLength more (length (rest_from 1 s) - n) → GoesOn (field ∷ more) more s (rest_from n (rest_from 1 s))
 counted_goes field more s n is octets first fits enough inner =
@@ -385,23 +376,8 @@ rest_laid layout left more payload rest octets g is =
     octets_after [] rest all = all
     octets_after (b ∷ front) rest all = octets_after front rest all.1
 
--- a text that goes to the end
-pub text_laid : (layout left : List Field) (payload rest : List ℕ) → GoesOn layout left payload rest → left ≡ fields.Utf8 ∷ [] → IsUtf8 rest → IsLaidOut layout payload
-text_laid layout left payload rest g is text = laid_whole layout left payload rest g (subst (λ l. IsLaidOut l rest) (sym is) text)
-
 pub text_refused : (layout left : List Field) (payload rest : List ℕ) (before : ℕ) (r : Option Refusal) → GoesOn layout left payload rest → left ≡ fields.Utf8 ∷ []
     → before ≡ length payload - length rest → IfSome r (IsRefusedText rest before) → IfSome r (IsRefusedIn layout payload)
 text_refused layout left payload rest before None g is place h = tt
 text_refused layout left payload rest before (Some refusal) g is place (at, there, refused) =
     raised layout left payload rest g at refusal.at refusal.reason (omega (arith, there, place)) (subst (λ l. IsRefusedIn l rest (record { at = at; reason = refusal.reason })) (sym is) refused)
-
--- no field is left
-pub end_laid : (layout left : List Field) (payload rest : List ℕ) → GoesOn layout left payload rest → left ≡ [] → IsLaidOut layout payload
-end_laid layout left payload rest g is =
-    let fits = subst (λ l. HasLaidLength l (length rest)) is g.fits in
-    laid_whole layout left payload rest g (subst (λ l. IsLaidOut l rest) (sym is) (empty rest fits.1))
-  where
-    empty : (rest : List ℕ) → (false ≡ true) ⊎ (length rest ≤ 0) → rest ≡ []
-    empty [] h = refl
-    empty (b ∷ rest) (inl e) = absurd (search rules)
-    empty (b ∷ rest) (inr l) = absurd (omega (arith, l))

@@ -1,17 +1,20 @@
 -- A record that is written in steps, by the numbers of its writer.
-use Rattle.std.proofs.Common.{◌≡◌, ◌≢◌, ℕ, ◌+◌, ◌⊎◌, inl, inr, List, ◌++◌, ◌-◌, length, take, drop, replicate, sym, ap₂, ap, ◌∙◌, subst, arith, length-append, length-take}
+use Rattle.std.proofs.Common.{◌≡◌, ◌≢◌, ℕ, ◌+◌, ◌⊎◌, ◌≤◌, inl, inr, List, [], ◌∷◌, ◌++◌, ◌-◌, append-nil, length, take, drop, replicate, rules, sym, ap₂, ap, ◌∙◌, subst, arith, length-append, length-take}
 use Rattle.std.proofs.lemmas.Bool.{true≢false}
 use Rattle.std.proofs.lemmas.Bool.Decides.{eqb_tells}
 use Rattle.std.proofs.lemmas.List.{length-replicate}
+use Rattle.std.specs.List.{flat_map}
+use Rattle.std.specs.Option.{ForSome}
 use Rattle.std.specs.Prelude.{IfSome, None, Option, Some, is_some, true}
 use Rattle.ndef_format.specs.Records.{HasShape}
 use Rattle.ndef_format.specs.declared.tnf.Tnf.{Tnf}
 use Rattle.ndef_message.specs.CutLaws.{below_or_not}
-use Rattle.ndef_message.specs.Steps.{Begun, Continues, Given, LeavesAll, LeavesNothing, WritesNext, octets_left, unstarted}
+use Rattle.ndef_message.specs.Steps.{AreCalls, AreNames, Begun, Call, Continues, Given, LeavesAll, LeavesNothing, StepsAreExact, WritesNext, octets_left, unstarted}
 use Rattle.ndef_message.specs.declared.plan.Progress.{Progress}
 use Rattle.ndef_message.specs.declared.plan.RecordPlan.{RecordPlan}
-use Rattle.ndef_c.specs.Writers.{BeginsAsWritten, HaveLengths, Lengths, MayBegin, asked_plan}
-use Rattle.ndef_c.specs.Writes.{MayBeWritten, asked}
+use Rattle.ndef_c.specs.Writers.{AreWriterCalls, BeginsAsWritten, HaveLengths, Lengths, MayBegin, WritersWriteRecords, asked_plan, begun_of, unwritten}
+use Rattle.ndef_c.specs.Writes.{MayBeWritten, asked, size_of}
+use Rattle.ndef_c.specs.declared.writer.NdefWriter.{NdefWriter}
 use Rattle.ndef_c.specs.declared.writing.NdefWriting.{NdefWriting}
 
 -- ---- before the first step
@@ -124,3 +127,22 @@ leaves_all (Some b) h e value all = subst (λ p. LeavesAll (record { plan = p; p
 pub moved_to : (new : Begun) (p : RecordPlan) (q r : Progress) → new.plan ≡ p → q ≡ new.progress → q ≡ r
     → new ≡ record { plan = p; progress = r }
 moved_to new p q r e f g = ap₂ (λ x y. record { plan = x; progress = y }) e (sym f ∙ g)
+
+-- ---- calls one after another
+
+steps_of : (kind id payload : List ℕ) (calls : List Call) (old new : NdefWriter) → AreWriterCalls kind id payload old calls new
+    → AreCalls kind id payload (begun_of old) calls (begun_of new)
+steps_of kind id payload [] old new are = ap begun_of are
+steps_of kind id payload (c ∷ cs) old new (more, mid, front, moves, next) =
+    (more, begun_of mid, front, moves.writes, steps_of kind id payload cs mid new next)
+
+some_size : (how : NdefWriting) → ForSome (size_of how) (λ n. 1 ≤ n)
+some_size how = search rules
+
+pub writers_write : StepsAreExact → WritersWriteRecords
+writers_write steps how lengths kind id payload calls last have begins are nothing =
+    let names : AreNames (asked_plan how lengths) kind id = record { kind_length = have.kind_length; id_length = have.id_length } in
+    let written = flat_map (λ c. take c.count c.after) calls in
+    let all = steps (asked_plan how lengths) kind id payload calls (begun_of last) begins.can (some_size how) names have.payload_length
+    (steps_of kind id payload calls (unwritten how lengths) last are) in
+    sym (append-nil written) ∙ ap (λ rest. written ++ rest) (sym nothing) ∙ all

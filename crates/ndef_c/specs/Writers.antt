@@ -1,7 +1,8 @@
 -- A record that is written in steps.
-use Rattle.std.specs.Prelude.{◌≡◌, ℕ, ◌≤◌, List, length}
+use Rattle.std.specs.Prelude.{◌≡◌, ℕ, ◌≤◌, List, [], ◌∷◌, ◌++◌, drop, length, take}
+use Rattle.std.specs.List.{flat_map}
 use Rattle.ndef_format.specs.Records.{tnf_of}
-use Rattle.ndef_message.specs.Steps.{Begun, CanBeWritten, Continues, Given, IsBegun, WritesNext, octets_left}
+use Rattle.ndef_message.specs.Steps.{Begun, Call, CanBeWritten, Continues, Given, IsBegun, LeavesNothing, WritesNext, octets_left}
 use Rattle.ndef_message.specs.declared.plan.RecordPlan.{RecordPlan}
 use Rattle.ndef_c.specs.Writes.{MayBeWritten, asked, asked_octets, form_of, is_first, is_last, size_of}
 use Rattle.ndef_c.specs.declared.writing.NdefWriting.{NdefWriting}
@@ -86,3 +87,22 @@ pub record MovesOn (old : NdefWriter) (given : Given) (before after : List ℕ) 
   pub same : new ≡ record old { taken = new.taken; head = new.head }
   pub is : IsWriter new
   pub writes : WritesNext (begun_of old) given before after n (begun_of new)
+
+-- ---- law
+
+-- calls one after another, from one writer to another, each given a front of the rest of the payload
+abbrev pub AreWriterCalls : (kind id payload : List ℕ) → NdefWriter → List Call → NdefWriter → Type 0
+AreWriterCalls kind id payload old [] new = new ≡ old
+AreWriterCalls kind id payload old (c ∷ cs) new =
+    (more : List ℕ) × (mid : NdefWriter) × (drop old.taken payload ≡ c.part ++ more)
+    × MovesOn old (record { kind = kind; id = id; part = c.part }) c.before c.after c.count mid
+    × AreWriterCalls kind id payload mid cs new
+
+-- For any parts and buffers, the bytes that the calls have written, joined, are those of the record that is written
+-- whole, once nothing of it is left.
+abbrev pub WritersWriteRecords : Type 0
+WritersWriteRecords = (how : NdefWriting) (lengths : Lengths) (kind id payload : List ℕ) (calls : List Call)
+    (last : NdefWriter) → HaveLengths lengths kind id payload → MayBegin how lengths
+    → AreWriterCalls kind id payload (unwritten how lengths) calls last
+    → LeavesNothing (begun_of last) kind id (drop last.taken payload)
+    → flat_map (λ c. take c.count c.after) calls ≡ asked_octets how (asked how kind id payload)

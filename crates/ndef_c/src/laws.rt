@@ -6,10 +6,11 @@ ghost use Rattle.ndef_c.specs.HandoverMaking.{WrittenRequestsAreRead, WrittenSel
 ghost use Rattle.ndef_c.specs.Links.{LinksAreExact};
 ghost use Rattle.ndef_c.specs.PosterWrites.{WrittenPostersAreRead};
 ghost use Rattle.ndef_c.specs.Walks.{ChecksAreWalked, OneRecordIsThere};
+ghost use Rattle.ndef_c.specs.Writers.{WritersWriteRecords};
 ghost use Rattle.ndef_c.specs.Writes.{RecordsMakeAMessage};
 
 use ndef_lang::RecordLanguage;
-use ndef_message::{answers_are_exact, views_are_exact, writing_is_spelling};
+use ndef_message::{answers_are_exact, steps_are_exact, views_are_exact, writing_is_spelling};
 use ndef_nest::strict_contents_are_read;
 use ndef_types::{alternatives_are_exact, texts_are_exact, uris_are_exact};
 use ndef_value::one_meaning;
@@ -38,6 +39,14 @@ pub fn one_record_is_there()
 pub fn records_make_a_message()
     ensures { RecordsMakeAMessage }
 {}
+
+/// What the calls of `ndef_writer_next` write of a record, joined, is what `ndef_write_record` writes of it, once they
+/// have answered `END`: whatever the parts of the payload and the buffers that they are given.
+pub fn writers_write_records()
+    ensures { WritersWriteRecords }
+{
+    steps_are_exact();
+}
 
 /// The records that `ndef_append` appends to a buffer follow one another, each written as its call requests,
 /// and only the first and the last of them are marked as such.

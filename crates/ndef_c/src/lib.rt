@@ -36,6 +36,8 @@
 //! - `nested.rt`: records of the messages in payloads. `query.rt`, `specs/RecordQuery.antt`: the results for records
 //!   that are sought, and their number.
 //! - `out.rt`, `buffer.rt`, `specs/Buffers.antt`: octets that are written to the caller's buffer, or counted.
+//! - `status.rt`, `status_name.rt`: what calls return. `refusal.rt`, `reasons.rt`: a refusal in numbers, and the names
+//!   of reasons. `limits.rt`: limits in numbers. `part.rt`: a part of a payload. `version.rt`: the version.
 //! - `laws.rt`: properties that the calls have together.
 #![tactic(auto)]
 
@@ -168,6 +170,7 @@ pub use laws::held_records_are_a_message;
 pub use laws::links_are_exact;
 pub use laws::one_record_is_there;
 pub use laws::records_make_a_message;
+pub use laws::writers_write_records;
 pub use laws::written_handovers_are_read;
 pub use laws::written_posters_are_read;
 pub use layout::LAYOUT_COUNTED;

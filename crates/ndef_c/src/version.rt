@@ -4,7 +4,7 @@ ghost use Rattle.std.specs.Prelude.{◌≡◌, ◌+◌, ◌*◌};
 /// The first number of the version that the file VERSION has.
 pub const MAJOR: u32 = 1;
 /// Its second number, 0 to 255.
-pub const MINOR: u32 = 0;
+pub const MINOR: u32 = 1;
 /// Its third number, 0 to 255.
 pub const PATCH: u32 = 0;
 

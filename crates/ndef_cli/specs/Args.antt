@@ -2,9 +2,8 @@
 use Rattle.std.specs.Prelude.{◌≡◌, ◌++◌, ◌∷◌, ◌⊎◌, ℕ, List, Option, Some, None, codes, IsUtf8}
 use Rattle.std.specs.List.{AllByRecursion}
 use Rattle.ndef_message.specs.States.{SinkState}
-use Rattle.ndef_cli.specs.Outputs.{GoesOut}
+use Rattle.ndef_cli.specs.Outputs.{Prints}
 use Rattle.ndef_cli.specs.Quoting.{Text, quoted}
-use Rattle.ndef_cli.specs.Statuses.{status_after}
 use Rattle.ndef_cli.specs.declared.status.Status.{Status}
 use Rattle.ndef_cli.specs.declared.status.Status.TheVariants as status
 use Rattle.ndef_cli.specs.declared.args.ArgsFault.{ArgsFault}
@@ -31,15 +30,10 @@ AreNoTexts args fault.NoMemory = AllByRecursion IsUtf8 args
 abbrev pub word_line : List ℕ → Text
 word_line word = codes "usage: the word " ++ quoted word ++ codes " is not UTF-8\n"
 
--- a line about the words goes out, or a front of it before writing fails, and this is the status
-abbrev pub SendsUsage : Text → (before after : SinkState) → Status → Type 0
-SendsUsage text before after result = GoesOut before.written after.written after.failed text
-    × (result ≡ status_after after.failed status.Usage)
-
 -- writes the line for a word that isn't UTF-8; writes nothing where memory runs out for it
 abbrev pub TellsWord : (word : List ℕ) → (before after : SinkState) → Status → Type 0
 TellsWord word before after result =
-    SendsUsage (word_line word) before after result ⊎ ((after ≡ before) × (result ≡ status.Fault))
+    Prints (word_line word) status.Usage before after result ⊎ ((after ≡ before) × (result ≡ status.Fault))
 
 -- the output for words that aren't taken as texts, and the status
 abbrev pub TellsWords : ArgsFault → (before after : SinkState) → Status → Type 0

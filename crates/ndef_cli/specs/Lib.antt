@@ -7,6 +7,7 @@ pub mod LimitOptions
 pub mod OptionLaws
 pub mod Options
 pub mod Outputs
+pub mod OutputLaws
 pub mod Pages
 pub mod PlainRunLaws
 pub mod Quoting

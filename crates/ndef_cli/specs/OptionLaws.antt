@@ -3,8 +3,9 @@ use Rattle.std.proofs.Common.{◌≡◌, ◌∙◌, ◌⊎◌, ℕ, Bool, true, 
 use Rattle.std.specs.Str.Parse.{ParsesUnsigned, digits_value, without_leading_plus}
 use Rattle.std.proofs.lemmas.Bool.{false_from_ne_true}
 use Rattle.clap.specs.ValueTests.{accepts}
-use Rattle.clap.specs.Words.{App, IsAmong, Kinds, Text, fault_of, is_simple_and_free}
+use Rattle.clap.specs.Words.{App, HasKind, IsAmong, Kinds, Text, fault_of, is_simple_and_free}
 use Rattle.clap.specs.declared.builder.value_parser.ValueParser.TheVariants as vp
+use Rattle.clap.specs.declared.error.Error.{Error}
 use Rattle.clap.specs.declared.error.kind.ErrorKind.{ErrorKind}
 use Rattle.clap.proofs.ValueTestLemmas.{accepts-Accepts, Accepts-accepts}
 use Rattle.ndef_cli.specs.Options.{number_in, unless_fault}
@@ -53,3 +54,10 @@ faulty built wanted args k memory said is free other kinds = elim (kinds (ap is_
   | inl h ↦ absurd (other h)
   | inr h ↦ among k (fault_of wanted args) said (subst (λ (a : App). IsAmong k (fault_of a args)) is h)
 ]
+
+-- the fault that clap finds in words
+pub fault_by : (built wanted : App) (args : List Text) (error : Error) → built ≡ wanted
+    → is_simple_and_free wanted ≡ true
+    → (is_simple_and_free built ≡ true → HasKind (fault_of built args) error) → HasKind (fault_of wanted args) error
+fault_by built wanted args error is free kinds =
+    subst (λ (a : App). HasKind (fault_of a args) error) is (kinds (ap is_simple_and_free is ∙ free))

@@ -8,7 +8,9 @@ use Rattle.ndef_cli.specs.declared.pages.Page.TheVariants as page
 -- the page of this name
 abbrev pub page_named : Text → Option Page
 page_named name = if bytes_eq name (codes "--help") then Some page.Help
-    else (if bytes_eq name (codes "--version") then Some page.Version else None)
+    else (if bytes_eq name (codes "-h") then Some page.Help
+    else (if bytes_eq name (codes "--version") then Some page.Version
+    else (if bytes_eq name (codes "-V") then Some page.Version else None)))
 
 -- the page for which the words ask, of which the first is the program's name
 abbrev pub page_asked : List Text → Option Page

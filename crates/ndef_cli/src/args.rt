@@ -1,12 +1,13 @@
 //! The words of a command line. On Linux they are bytes; clap takes texts.
-ghost use Rattle.std.specs.Prelude.{◌≡◌, IfErr, IfOk, IsUtf8, false, map, option_map, string_bytes};
+ghost use Rattle.std.specs.Prelude.{◌≡◌, IfErr, IfOk, IsUtf8, map, option_map, string_bytes};
 ghost use Rattle.std.specs.List.{AllByRecursion};
 ghost use Rattle.ndef_message.specs.States.{sink_state};
-ghost use Rattle.ndef_cli.specs.Args.{AreNoTexts, IsStrange, SendsUsage, TellsWord, TellsWords, word_line};
+ghost use Rattle.ndef_cli.specs.Args.{AreNoTexts, IsStrange, TellsWord, TellsWords, word_line};
 
 use crate::Status;
+use crate::printing::print;
 use crate::quoting::push_quoted;
-use ndef_message::{Sink, send};
+use ndef_message::Sink;
 use ndef_value::{Bytes, NoMemory};
 use std::alloc::Global;
 use std::env::{Env, FillError};
@@ -122,24 +123,12 @@ pub fn word_line(alloc: Global, word: &[u8]) -> Result<Bytes, NoMemory>
     Ok(line)
 }
 
-/// Writes a line about the words.
-fn send_usage<K: Sink>(text: &[u8], sink: &mut K) -> Status
-    ensures { K.has_failed sink.old ≡ false
-        → SendsUsage text.now (sink_state K.Sink sink.old) (sink_state K.Sink sink.new) result }
-{
-    match send(0, text, sink) {
-        Ok(_) => Status::Usage,
-        Err(_) => Status::Fault,
-    }
-}
-
 /// Writes the line for a word that isn't UTF-8.
 fn tell_word<K: Sink>(alloc: Global, word: &[u8], sink: &mut K) -> Status
-    ensures { K.has_failed sink.old ≡ false
-        → TellsWord word.now (sink_state K.Sink sink.old) (sink_state K.Sink sink.new) result }
+    ensures { TellsWord word.now (sink_state K.Sink sink.old) (sink_state K.Sink sink.new) result }
 {
     match word_line(alloc, word) {
-        Ok(line) => send_usage(line.as_slice(), sink),
+        Ok(line) => print(line.as_slice(), Status::Usage, sink),
         Err(NoMemory) => Status::Fault,
     }
 }
@@ -147,8 +136,7 @@ fn tell_word<K: Sink>(alloc: Global, word: &[u8], sink: &mut K) -> Status
 /// Writes why words aren't taken as texts: the line for a word that isn't UTF-8. The status is `Usage`; it is
 /// `Fault` if memory runs out or writing fails.
 pub fn tell_words<K: Sink>(alloc: Global, fault: ArgsFault<'_>, sink: &mut K) -> Status
-    ensures { K.has_failed sink.old ≡ false
-        → TellsWords fault.entry (sink_state K.Sink sink.old) (sink_state K.Sink sink.new) result }
+    ensures { TellsWords fault.entry (sink_state K.Sink sink.old) (sink_state K.Sink sink.new) result }
 {
     match fault {
         ArgsFault::NotText(word) => tell_word(alloc, word, sink),

@@ -13,7 +13,7 @@
 //! - `outcome.rt`, `outcome_lines.rt`, `specs/Outcomes.antt`: the outcomes of a run, and the line of an outcome.
 //! - `inputs.rt`, `specs/Inputs.antt`: inputs by their names. `files.rt`: the files of the system. `causes.rt`,
 //!   `specs/Causes.antt`: the reasons why a file can't be read.
-//! - `decimals.rt`: numbers in lines. `specs/Outputs.antt`: the bytes that are written to a sink.
+//! - `decimals.rt`: numbers in lines. `printing.rt`, `specs/Outputs.antt`: the bytes that are written to a sink.
 #![tactic(auto)]
 
 mod args;
@@ -31,6 +31,7 @@ mod options;
 mod outcome;
 mod outcome_lines;
 mod pages;
+mod printing;
 mod quoting;
 mod reading_options;
 mod status;
@@ -50,6 +51,7 @@ pub use options::{flag_given, hex_given, option_text};
 pub use outcome::{HexFault, Outcome};
 pub use outcome_lines::outcome_text;
 pub use pages::{Page, page_asked};
+pub use printing::print;
 pub use quoting::{push_quoted, push_quoted_bytes};
 pub use reading_options::{reading_command, wide_option};
 pub use status::{Status, exit_code, exit_code_after, worse};

@@ -16,8 +16,8 @@ fn page_named(name: &str) -> Option<Page>
     ensures { result ≡ page_named name.now }
 {
     match name {
-        "--help" => Some(Page::Help),
-        "--version" => Some(Page::Version),
+        "--help" | "-h" => Some(Page::Help),
+        "--version" | "-V" => Some(Page::Version),
         _ => None,
     }
 }

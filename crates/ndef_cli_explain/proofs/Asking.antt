@@ -2,8 +2,7 @@
 use Rattle.std.proofs.Common.{◌≡◌, ◌∙◌, List, [], Option, Result, map, refl, sym, ap, subst, true}
 use Rattle.std.specs.Prelude.{codes, option_map, unwrap_or}
 use Rattle.std.specs.Borrow.{Bor}
-use Rattle.clap.specs.Words.{App, HasKind, HasMatchesOf, Text, fault_of, found_of, is_simple, is_simple_and_free, matched_of, matches_of, raw_values, rows_of}
-use Rattle.clap.specs.declared.error.Error.{Error}
+use Rattle.clap.specs.Words.{App, HasMatchesOf, Text, fault_of, found_of, is_simple, is_simple_and_free, matched_of, matches_of, raw_values, rows_of}
 use Rattle.clap.specs.declared.parser.matches.ArgMatches.{ArgMatches}
 use Rattle.clap.specs.declared.parser.matches.Found.{Found}
 use Rattle.clap.proofs.OnLiterals.{clap_on_literals}
@@ -34,9 +33,3 @@ parsed built expected words m r is simple free matches kinds answers =
 pub files_given : (f : Found) (r : Option (Bor (List (Bor Text)))) → option_map (λ s. map (λ v. v.now) s.now) r ≡ option_map raw_values (matched_of f (codes "file"))
     → unwrap_or (option_map (λ s. map (λ v. v.now) s.now) r) [] ≡ files_in (rows_of f)
 files_given f r e = ap (λ o. unwrap_or o []) (e ∙ raw_values-rows f (codes "file"))
-
--- what clap finds wrong with words
-pub faulty_by : (built expected : App) (words : List Text) (error : Error) → built ≡ expected → is_simple_and_free expected ≡ true
-    → (is_simple_and_free built ≡ true → HasKind (fault_of built words) error) → HasKind (fault_of expected words) error
-faulty_by built expected words error is free kinds =
-    subst (λ (a : App). HasKind (fault_of a words) error) is (kinds (ap is_simple_and_free is ∙ free))

@@ -113,10 +113,6 @@ pub none_looked : (s bytes : List ℕ) → length s ≡ 0 → bytes ≡ [] → d
 none_looked [] bytes e i = none_decoded [] e ∙ ap Ok (sym i)
 none_looked (x ∷ s) bytes e i = absurd (omega arith)
 
-pub fold_more : (before : Looked) (s : List ℕ) (i : ℕ) → i < length s
-    → fold look before (take (i + 1) s) ≡ look (fold look before (take i s)) (slice_index s i)
-fold_more before s i l = ap (fold look before) (take_more s i 0 l) ∙ fold-append look before (take i s) (slice_index s i ∷ [])
-
 -- ---- the number of digits
 
 abbrev total : {X : Type 0} → List (List X) → ℕ

@@ -31,10 +31,6 @@ gap_more text n l none before =
 pub gap_found : (text : Text) (n : ℕ) → starts_with nat_eq (drop n text) (codes "  ") ≡ true → take n text ++ before_gap (drop n text) ≡ before_gap text → take n text ≡ before_gap text
 gap_found text n is before = sym (append-nil (take n text)) ∙ ap (λ t. take n text ++ t) (sym (gap_at (drop n text) is)) ∙ before
 
--- none
-pub gap_missing : (text : Text) (n : ℕ) → length text ≤ n → take n text ++ before_gap (drop n text) ≡ before_gap text → take n text ≡ before_gap text
-gap_missing text n l before = sym (append-nil (take n text)) ∙ ap (λ t. take n text ++ before_gap t) (sym (drop_all n text l)) ∙ before
-
 -- ---- lines with a place
 
 -- a line with a place

@@ -1,5 +1,5 @@
 -- The program: a function of its words, of the bytes of the inputs and of whether its output takes colours.
-use Rattle.std.specs.Prelude.{◌≡◌, ◌⊎◌, ℕ, Bool, true, false, List, [], ◌∷◌, ◌++◌, codes, decimal, Option, Some, None, Result, Ok, Err}
+use Rattle.std.specs.Prelude.{◌≡◌, ◌<◌, ◌⊎◌, ℕ, Bool, true, false, List, [], ◌∷◌, ◌++◌, length, codes, decimal, Option, Some, None, Result, Ok, Err}
 use Rattle.ndef_format.specs.Limits.{LimitValues}
 use Rattle.ndef_message.specs.States.{SinkState}
 use Rattle.ndef_message.specs.declared.input.InputError.{InputError}
@@ -7,8 +7,8 @@ use Rattle.ndef_message.specs.declared.sending.WriteFault.{WriteFault}
 use Rattle.ndef_cli.specs.Outcomes.{outcome_text, status_of}
 use Rattle.ndef_cli.specs.Inputs.{GivesInput}
 use Rattle.ndef_cli.specs.Quoting.{Text, quoted}
-use Rattle.ndef_cli.specs.Statuses.{status_after, worse}
-use Rattle.ndef_cli.specs.Outputs.{GoesOut}
+use Rattle.ndef_cli.specs.Statuses.{worse}
+use Rattle.ndef_cli.specs.Outputs.{Prints, Sends}
 use Rattle.ndef_cli.specs.Pages.{page_asked}
 use Rattle.ndef_cli.specs.declared.outcome.Outcome.{Outcome}
 use Rattle.ndef_cli.specs.declared.outcome.Outcome.TheVariants as outcomes
@@ -122,12 +122,13 @@ pub record Course (I : Type 0) : Type 0 where
 abbrev pub course : {I : Type 0} → World I → World I → Status → Course I
 course before after status = record { before = before; after = after; status = status }
 
--- a text goes out, and this is the status; or a front of the text, before writing fails
+-- a text is sent, and this is the status, where the sink hadn't failed before or there was nothing to write; or writing
+-- fails
 abbrev pub SendsOut : Text → Status → (before after : SinkState) → Result Status WriteFault → Type 0
 SendsOut text st before after (Ok reported) =
-    GoesOut before.written after.written after.failed text × (after.failed ≡ false) × (reported ≡ st)
-SendsOut text st before after (Err fault) =
-    GoesOut before.written after.written after.failed text × (after.failed ≡ true)
+    Sends text before after × (after.failed ≡ before.failed) × (0 < length text → before.failed ≡ false)
+    × (reported ≡ st)
+SendsOut text st before after (Err fault) = Sends text before after × (after.failed ≡ true)
 
 -- all that is printed of an input goes out, and this is its status; or writing fails
 abbrev pub TellsNext : ReportOptions → (name : Text) → (read : Result (List ℕ) InputError) → (before after : SinkState)
@@ -153,15 +154,10 @@ TellsAll {I} gives options (name ∷ names) st c =
 
 -- ---- a run
 
--- a text goes out, or a front of it before writing fails, and this is the status
-abbrev pub PrintsText : Text → Status → (before after : SinkState) → Status → Type 0
-PrintsText text st before after result =
-    GoesOut before.written after.written after.failed text × (result ≡ status_after after.failed st)
-
--- the same, and the inputs are left
+-- a text is sent, this is the status, and the inputs are left
 abbrev pub AnswersWords : {I : Type 0} → Text → Status → Course I → Type 0
 AnswersWords text st c =
-    (c.after.inputs ≡ c.before.inputs) × PrintsText text st c.before.output c.after.output c.status
+    (c.after.inputs ≡ c.before.inputs) × Prints text st c.before.output c.after.output c.status
 
 -- whether output is in colour
 abbrev pub is_in_color : Color → (takes_color : Bool) → Bool
@@ -200,7 +196,7 @@ TellsAsked gives takes_color (choice, files) c =
 abbrev pub RunsFor : {I : Type 0} → GivesInput I → (takes_color : Bool) → Result Asked ArgsError → Course I → Type 0
 RunsFor gives takes_color (Ok asked) c = TellsAsked gives takes_color (asked_parts asked) c
 RunsFor gives takes_color (Err Usage) c = AnswersWords USAGE.now status.Usage c
-RunsFor gives takes_color (Err NoMemory) c = AnswersWords [] status.Fault c
+RunsFor gives takes_color (Err NoMemory) c = (c.after ≡ c.before) × (c.status ≡ status.Fault)
 
 -- a page, or the outcome of the words
 abbrev pub RunsAsked : {I : Type 0} → GivesInput I → List Text → (takes_color : Bool) → Option Page → Course I

@@ -1,4 +1,24 @@
 //! The program `ndef-explain`: it prints the field of each byte of an input, and the meaning of the field.
+//!
+//! The files:
+//!
+//! - `running.rt`, `specs/Running.antt`: one run. `system.rt`: a run over the files and the standard streams of the
+//!   system.
+//! - `command.rt`, `choice.rt`: the words, by clap. `pages.rt`: the pages about the program itself.
+//! - `inputs.rt`: the bytes of an input. `hexadecimal.rt`: those of hexadecimal text. `faults.rt`: inputs without
+//!   bytes.
+//! - `reporting.rt`, `explained.rt`, `explaining.rt`: the output for an input, and the messages before it stops.
+//! - `output.rt`, `style.rt`, `coloring.rt`: lines or JSON, plain or in colour. `cells.rt`: octets in digits.
+//!   `json_strings.rt`: strings in JSON.
+//! - `messages.rt`, `payloads.rt`, `fields.rt`: the lines and objects of messages, joined payloads and fields.
+//!   `meaning.rt`, `wording.rt`, `codes.rt`: what the octets of a field mean, in words.
+//! - `record_objects.rt`, `references.rt`: the values of payloads in JSON, and the records that handovers name.
+//! - `remark_lists.rt`: the remarks on records. `advice.rt`: hints and warnings.
+//! - `refusals.rt`, `said_refusal.rt`, `refused_record.rt`: a refusal, its description, and the record in which it is.
+//! - `recovery.rt`, `recovery_place.rt`: the input past a record that is refused.
+//!
+//! The crates json and serde_json are used by contracts and definitions only: they state the objects and the strings
+//! that `output.rt` and `json_strings.rt` print.
 #![tactic(auto)]
 
 mod advice;

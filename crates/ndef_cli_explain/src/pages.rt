@@ -15,7 +15,7 @@ pub(crate) fn page_text(page: Page) -> &'static [u8]
 }
 
 /// The name and the version.
-pub(crate) const VERSION: &[u8] = b"ndef-explain 1.0.0\n";
+pub(crate) const VERSION: &[u8] = b"ndef-explain 1.1.0.dev\n";
 
 /// The description of the program, its words, and examples.
 pub(crate) const HELP: &[u8] = b"\

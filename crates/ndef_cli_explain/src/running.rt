@@ -1,17 +1,16 @@
 //! The program, over any inputs and any sink.
-ghost use Rattle.std.specs.Prelude.{◌≡◌, false, map, string_bytes};
+ghost use Rattle.std.specs.Prelude.{◌≡◌, map, string_bytes};
 ghost use Rattle.ndef_message.specs.Inputs.{bytes_of};
 ghost use Rattle.ndef_message.specs.States.{sink_state};
-ghost use Rattle.ndef_cli.specs.Statuses.{EndsCommand};
 ghost use Rattle.ndef_cli.specs.declared.status.Status.TheVariants.{Clean};
 ghost use Rattle.ndef_cli_explain.specs.Chosen.{asked_parts};
-ghost use Rattle.ndef_cli_explain.specs.Running.{PrintsText, Runs, SendsOut, TellsAll, TellsAsked, TellsNext};
+ghost use Rattle.ndef_cli_explain.specs.Running.{Runs, SendsOut, TellsAll, TellsAsked, TellsNext};
 ghost use Rattle.ndef_cli_explain.specs.Running.{course, is_in_color, report_options_of, memory_text, world};
 
 use crate::choice::{Asked, Color, ExplainChoice, ask};
 use crate::pages::page_text;
 use crate::reporting::{ReportOptions, tell};
-use ndef_cli::{ArgsError, Inputs, Page, Status, page_asked, worse};
+use ndef_cli::{ArgsError, Inputs, Page, Status, page_asked, print, worse};
 use ndef_message::{InputError, Sink, WriteFault, send};
 use ndef_value::NoMemory;
 use std::alloc::Global;
@@ -26,16 +25,6 @@ pub(crate) const MEMORY_LINE: &[u8] = b"fault: memory\n";
 
 /// The object for a lack of memory, in a line.
 pub(crate) const MEMORY_OBJECT: &[u8] = b"{\"fault\":\"memory\"}\n";
-
-/// The status, unless the text couldn't be written.
-fn end(written: Result<u64, WriteFault>, status: Status) -> Status
-    ensures { EndsCommand written status result }
-{
-    match written {
-        Ok(_) => status,
-        Err(_) => Status::Fault,
-    }
-}
 
 /// Returns the output if memory runs out.
 fn memory_text(json: bool) -> &'static [u8]
@@ -69,17 +58,9 @@ fn report_options_of(choice: ExplainChoice, takes_color: bool, named: bool) -> R
     }
 }
 
-/// Writes a text about the program itself, or about the words.
-fn answer<K: Sink>(text: &[u8], status: Status, sink: &mut K) -> Status
-    ensures { K.has_failed sink.old ≡ false → PrintsText text.now status
-        (sink_state K.Sink sink.old) (sink_state K.Sink sink.new) result }
-{
-    end(send(0, text, sink), status)
-}
-
 /// Writes a text; the status, unless writing fails.
 fn send_out<K: Sink>(text: &[u8], status: Status, sink: &mut K) -> Result<Status, WriteFault>
-    ensures { K.has_failed sink.old ≡ false → SendsOut text.now status
+    ensures { SendsOut text.now status
         (sink_state K.Sink sink.old) (sink_state K.Sink sink.new) result }
 {
     match send(0, text, sink) {
@@ -96,7 +77,7 @@ fn tell_next<K: Sink>(
     read: Result<Vec<u8>, InputError>,
     sink: &mut K,
 ) -> Result<Status, WriteFault>
-    ensures { K.has_failed sink.old ≡ false → TellsNext options.now name.now (bytes_of read)
+    ensures { TellsNext options.now name.now (bytes_of read)
         (sink_state K.Sink sink.old) (sink_state K.Sink sink.new) result }
 {
     match tell(alloc, options, name, read) {
@@ -113,7 +94,7 @@ fn tell_all<I: Inputs, K: Sink>(
     inputs: &mut I,
     sink: &mut K,
 ) -> Status
-    ensures { K.has_failed sink.old ≡ false → TellsAll I.gives options.now (map (λ name. name.now) names.now) Clean
+    ensures { TellsAll I.gives options.now (map (λ name. name.now) names.now) Clean
         (course (world inputs.old (sink_state K.Sink sink.old))
         (world inputs.new (sink_state K.Sink sink.new)) result) }
 {
@@ -136,7 +117,7 @@ fn run_for<I: Inputs, K: Sink>(
     inputs: &mut I,
     sink: &mut K,
 ) -> Status
-    ensures { K.has_failed sink.old ≡ false → TellsAsked I.gives takes_color (asked_parts asked.now)
+    ensures { TellsAsked I.gives takes_color (asked_parts asked.now)
         (course (world inputs.old (sink_state K.Sink sink.old))
         (world inputs.new (sink_state K.Sink sink.new)) result) }
 {
@@ -155,7 +136,8 @@ fn run_for<I: Inputs, K: Sink>(
 /// program's name.
 ///
 /// Each input is read whole before any output for it is written. After a writing fault the status is `Fault`,
-/// and a front of the text is written. Output is in colour as the words request, or if it takes colours.
+/// and a front of the text is written; nothing where the sink had failed before, and the status is `Fault` then too,
+/// unless there was nothing to write. Output is in colour as the words request, or if it takes colours.
 pub fn run<I: Inputs, K: Sink>(
     alloc: Global,
     words: &[String],
@@ -163,16 +145,16 @@ pub fn run<I: Inputs, K: Sink>(
     inputs: &mut I,
     sink: &mut K,
 ) -> Status
-    ensures { K.has_failed sink.old ≡ false → Runs I.gives (map string_bytes words.now) takes_color
+    ensures { Runs I.gives (map string_bytes words.now) takes_color
         (course (world inputs.old (sink_state K.Sink sink.old))
         (world inputs.new (sink_state K.Sink sink.new)) result) }
 {
     if let Some(page) = page_asked(words) {
-        return answer(page_text(page), Status::Clean, sink);
+        return print(page_text(page), Status::Clean, sink);
     }
     match ask(alloc, words) {
         Ok(asked) => run_for(alloc, &asked, takes_color, inputs, sink),
-        Err(ArgsError::Usage) => answer(USAGE, Status::Usage, sink),
+        Err(ArgsError::Usage) => print(USAGE, Status::Usage, sink),
         Err(ArgsError::NoMemory) => Status::Fault,
     }
 }

@@ -54,17 +54,6 @@ any_more test f ps n p l e =
 abbrev both : (hex raw : Bool) → Flags
 both hex raw = record { hex = hex; raw = raw }
 
--- the flags of one edit more
-pub flags_more : {A : Type 0} (f : A → Edit AskedPart) (ps : List A) (n : ℕ) (p : A) (flags own : Flags) → n < length ps → p ≡ get_or ps n p → flags ≡ flags_in (map f (take n ps)) → own ≡ flags_of (f p)
-    → both (flags.hex || own.hex) (flags.raw || own.raw) ≡ flags_in (map f (take (n + 1) ps))
-flags_more f ps n p flags own l e is one =
-    ap₂ (λ (a b : Flags). both (a.hex || b.hex) (a.raw || b.raw)) is one
-    ∙ ap₂ both (sym (any_more (λ edit. (flags_of edit).hex) f ps n p l e)) (sym (any_more (λ edit. (flags_of edit).raw) f ps n p l e))
-
-pub any_in : {X : Type 0} (test : X → Bool) (es : List (Edit X)) → list_any test (records_in es) ≡ list_any (passes test) es
-any_in test [] = refl
-any_in test (e ∷ es) = list_any-append test (one_or_none (record_of e)) (records_in es) ∙ ap₂ (λ a b. a || b) (one_passes test (record_of e)) (any_in test es)
-
 -- a record that passes or doesn't
 passes_some : {X : Type 0} (test : X → Bool) (e : Edit X) (x : X) → record_of e ≡ Some x → passes test e ≡ test x
 passes_some test e x is = ap (λ o. option_map_or test o false) is
@@ -262,9 +251,6 @@ number_there edits at e l is = slice_get-map number_of edits at ∙ ap (option_m
 
 whole : {A B : Type 0} (f : A → B) (ps : List A) (n : ℕ) → length ps ≤ n → take n (map f ps) ≡ map f ps
 whole f ps n l = take_all n (map f ps) (omega (arith, l, length-map ps f))
-
-pub any_whole : {A B : Type 0} (test : B → Bool) (f : A → B) (ps : List A) (n : ℕ) → length ps ≤ n → list_any test (take n (map f ps)) ≡ false → list_any test (map f ps) ≡ false
-any_whole test f ps n l none = ap (list_any test) (sym (whole f ps n l)) ∙ none
 
 pub count_whole : {A B : Type 0} (test : B → Bool) (f : A → B) (ps : List A) (n : ℕ) → length ps ≤ n → count_by test (take n (map f ps)) ≡ count_by test (map f ps)
 count_whole test f ps n l = ap (count_by test) (whole f ps n l)

@@ -92,12 +92,6 @@ unfound_at items f g ps n p fault l e before h =
 
 -- ---- references one after another
 
--- where the first isn't found, and the others are those that are left of all
-pub first_unfound : (items : List Item) (reference : Text) (rest all : List Text) (fault : Fault) → find (is_missing items) (reference ∷ rest) ≡ find (is_missing items) all
-    → AreFound items (reference ∷ []) (Err fault) → AreFound items all (Err fault)
-first_unfound items reference rest all fault same h =
-    found_as (find (is_missing items) (reference ∷ [])) (find (is_missing items) all) fault (λ r is. sym same ∙ found_before (is_missing items) (reference ∷ []) rest r is) h
-
 -- one reference, which has no record
 pub lacks : (items : List Item) (reference : Text) → is_missing items reference ≡ true → find (is_missing items) (reference ∷ []) ≡ Some reference
 lacks items reference is = ap (λ b. cond b (Some reference) None) is

@@ -52,8 +52,3 @@ pub in_unkept : {I A X Y : Type 0} (makes : X → I → I → Result Y Fault →
     → FailsIn makes (map f ps) before after Memory
 in_unkept makes f ps n p before middle after items i l e are is =
     in_fails_at makes f ps n p before middle after items Memory l e are (inr (i, is))
-
--- all records
-pub in_whole : {I A X Y : Type 0} (makes : X → I → I → Result Y Fault → Type 0) (f : A → X) (ps : List A) (n : ℕ) (before after : I) (items : List Y) → length ps ≤ n
-    → AreMadeIn makes (map f (take n ps)) before after items → AreMadeIn makes (map f ps) before after items
-in_whole makes f ps n before after items l are = subst (λ qs. AreMadeIn makes (map f qs) before after items) (take_all n ps l) are

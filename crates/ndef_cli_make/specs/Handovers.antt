@@ -148,8 +148,8 @@ MakesRequestRecord minor items (Ok i) = HasContents tables.Request Strict items
     × WritesRequest (record { minor = minor; items = items }) i.payload
     × (length i.payload < 2 ^ 32)
     × (i ≡ typed_record (codes "Hr") i.payload)
-MakesRequestRecord minor items (Err (Refused NoHandover)) =
-    (items ≡ []) ⊎ ((index : ℕ) × IsFirstWrong tables.Request items index)
+MakesRequestRecord minor items (Err (Refused NoHandover)) = (length items ≤ 65535)
+    × ((items ≡ []) ⊎ ((index : ℕ) × IsFirstWrong tables.Request items index))
 MakesRequestRecord minor items (Err (Refused TooManyRecords)) = 65535 < length items
 MakesRequestRecord minor items (Err (Refused PayloadTooLong)) =
     (payload : List ℕ) × WritesRequest (record { minor = minor; items = items }) payload
@@ -171,7 +171,7 @@ MakesSelectRecord minor items (Ok i) = IfSome (selected items) (HasContents tabl
     × (length i.payload < 2 ^ 32)
     × (i ≡ typed_record (codes "Hs") i.payload)
 MakesSelectRecord minor items (Err (Refused NoHandover)) =
-    (index : ℕ) × IsFirstWrong tables.Select items index
+    (index : ℕ) × (length items ≤ 65535) × IsFirstWrong tables.Select items index
 MakesSelectRecord minor items (Err (Refused TooManyRecords)) = 65535 < length items
 MakesSelectRecord minor items (Err (Refused PayloadTooLong)) =
     (payload : List ℕ) × WritesSelect (record { minor = minor; message = selected items }) payload

@@ -48,8 +48,8 @@ abbrev pub MakesNested : List Item → Answer → Type 0
 MakesNested items (Ok i) =
     HasContents tables.SmartPoster Strict items × (length (canonical items) < 2 ^ 32)
     × (i ≡ typed_record (codes "Sp") (canonical items))
-MakesNested items (Err (Refused NoPoster)) = (items ≡ [])
-    ⊎ ((index : ℕ) × (IsFirstWrong tables.SmartPoster items index ⊎ LacksUri items index))
+MakesNested items (Err (Refused NoPoster)) = (items ≡ []) ⊎ ((index : ℕ) × (length items ≤ 65535)
+    × (IsFirstWrong tables.SmartPoster items index ⊎ LacksUri items index))
 MakesNested items (Err (Refused TooManyRecords)) = 65535 < length items
 MakesNested items (Err (Refused PayloadTooLong)) = 2 ^ 32 ≤ length (canonical items)
 MakesNested items (Err Memory) =

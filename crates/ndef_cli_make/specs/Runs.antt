@@ -3,8 +3,7 @@ use Rattle.std.specs.Prelude.{◌≡◌, Bool, List, Option, None, Some, Result,
 use Rattle.clap.specs.Words.{Text}
 use Rattle.ndef_message.specs.States.{SinkState, sink_state}
 use Rattle.ndef_message.specs.declared.sink.Sink.{Ghosts as SinkOf}
-use Rattle.ndef_cli.specs.Outputs.{GoesOut}
-use Rattle.ndef_cli.specs.Statuses.{status_after}
+use Rattle.ndef_cli.specs.Outputs.{Prints, Sends}
 use Rattle.ndef_cli_make.specs.Faults.{line_of, fault_status}
 use Rattle.ndef_cli.specs.Inputs.{GivesInput}
 use Rattle.ndef_cli_make.specs.Outcomes.{IsMadeOfWords}
@@ -31,25 +30,16 @@ abbrev pub three_streams : {I K L : Type 0} (output : SinkOf K) (lines : SinkOf 
 three_streams output lines inputs k l =
     record { inputs = inputs; output = sink_state output k; lines = sink_state lines l }
 
--- the text goes out to a sink, or a front of it
-abbrev pub Sends : (before after : SinkState) → Text → Type 0
-Sends before after text = GoesOut before.written after.written after.failed text
-
--- a text goes out, and this is the status
-abbrev pub PrintsAll : Text → (before after : SinkState) → Status → Type 0
-PrintsAll text before after result =
-    Sends before after text × (result ≡ status_after after.failed status.Clean)
-
 -- ---- a message
 
 -- a note explains why digits are written to a terminal
 abbrev pub Notes : OutputFormat → (before after : SinkState) → Type 0
-Notes DigitsForTerminal before after = Sends before after NOTE.now
+Notes DigitsForTerminal before after = Sends NOTE.now before after
 Notes _ before after = after ≡ before
 
 -- the message goes out
 abbrev pub TellsMade : {I : Type 0} → Written → (before after : ThreeStreams I) → Status → Type 0
-TellsMade made before after result = PrintsAll made.text before.output after.output result
+TellsMade made before after result = Prints made.text status.Clean before.output after.output result
     × Notes made.shown before.lines after.lines
 
 -- the message goes out, or the line of the fault to the other sink
@@ -57,7 +47,7 @@ abbrev pub TellsOutcome : {I : Type 0} → Result Written Fault → (before afte
     → Type 0
 TellsOutcome (Ok made) before after result = TellsMade made before after result
 TellsOutcome (Err fault) before after result = (after.output ≡ before.output)
-    × Sends before.lines after.lines (line_of fault) × (result ≡ fault_status fault)
+    × Sends (line_of fault) before.lines after.lines × (result ≡ fault_status fault)
 
 -- ---- a run
 
@@ -73,7 +63,7 @@ abbrev pub RunsPageOrRecords : {I : Type 0} → GivesInput I → Option AskedPag
     → (terminal : Bool) → (before after : ThreeStreams I) → Status → Type 0
 RunsPageOrRecords gives (Some page) words terminal before after result =
     (after.inputs ≡ before.inputs)
-    × PrintsAll (ndef_make_page page) before.output after.output result
+    × Prints (ndef_make_page page) status.Clean before.output after.output result
     × (after.lines ≡ before.lines)
 RunsPageOrRecords gives None words terminal before after result =
     RunsForRecords gives words terminal before after result

@@ -131,7 +131,7 @@ pub(crate) fn make_page_asked(words: &[String]) -> Option<AskedPage>
 }
 
 /// The name and the version.
-const VERSION: &[u8] = b"ndef-make 1.0.0\n";
+const VERSION: &[u8] = b"ndef-make 1.1.0.dev\n";
 
 /// The description of the program, its words, and examples.
 const HELP: &[u8] = b"\

@@ -1,25 +1,14 @@
 //! The program, over any inputs and sinks.
-ghost use Rattle.std.specs.Prelude.{◌≡◌, false, map, string_bytes};
+ghost use Rattle.std.specs.Prelude.{map, string_bytes};
 ghost use Rattle.ndef_message.specs.States.{sink_state};
-ghost use Rattle.ndef_cli_make.specs.Runs.{Notes, PrintsAll, RunsForRecords, RunsNdefMake, three_streams};
+ghost use Rattle.ndef_cli_make.specs.Runs.{Notes, RunsForRecords, RunsNdefMake, three_streams};
 
 use crate::fault::{fault_status, line_of};
 use crate::making::{OutputFormat, make};
 use crate::pages::{make_page_asked, ndef_make_page};
-use ndef_cli::{Inputs, Status};
-use ndef_message::{Sink, send};
+use ndef_cli::{Inputs, Status, print};
+use ndef_message::Sink;
 use std::alloc::Global;
-
-/// Writes a text.
-fn print<K: Sink>(text: &[u8], sink: &mut K) -> Status
-    ensures { K.has_failed sink.old ≡ false
-        → PrintsAll text.now (sink_state K.Sink sink.old) (sink_state K.Sink sink.new) result }
-{
-    match send(0, text, sink) {
-        Ok(_) => Status::Clean,
-        Err(_) => Status::Fault,
-    }
-}
 
 /// The note that explains why digits are written to a terminal.
 const NOTE: &[u8] = b"standard output is a terminal: writing hexadecimal digits; \
@@ -28,13 +17,12 @@ const NOTE: &[u8] = b"standard output is a terminal: writing hexadecimal digits;
 /// Writes that digits are written because they go to a terminal, if that is so. Whether it goes out doesn't matter for
 /// the status.
 fn note<L: Sink>(shown: OutputFormat, lines: &mut L)
-    ensures { L.has_failed lines.old ≡ false
-        → Notes shown (sink_state L.Sink lines.old) (sink_state L.Sink lines.new) }
+    ensures { Notes shown (sink_state L.Sink lines.old) (sink_state L.Sink lines.new) }
 {
     match shown {
         OutputFormat::Octets | OutputFormat::Digits | OutputFormat::Number => {}
         OutputFormat::DigitsForTerminal => {
-            print(NOTE, lines);
+            print(NOTE, Status::Clean, lines);
         }
     }
 }
@@ -48,19 +36,18 @@ fn run_for<I: Inputs, K: Sink, L: Sink>(
     sink: &mut K,
     lines: &mut L,
 ) -> Status
-    ensures { K.has_failed sink.old ≡ false → L.has_failed lines.old ≡ false
-        → RunsForRecords I.gives (map string_bytes words.now) terminal
+    ensures { RunsForRecords I.gives (map string_bytes words.now) terminal
         (three_streams K.Sink L.Sink inputs.old sink.old lines.old)
         (three_streams K.Sink L.Sink inputs.new sink.new lines.new) result }
 {
     match make(alloc, words, terminal, inputs) {
         Ok(made) => {
             note(made.shown, lines);
-            print(made.text.as_slice(), sink)
+            print(made.text.as_slice(), Status::Clean, sink)
         }
         Err(fault) => {
             let reported = line_of(&fault);
-            print(reported.as_slice(), lines);
+            print(reported.as_slice(), Status::Clean, lines);
             fault_status(&fault)
         }
     }
@@ -70,7 +57,9 @@ fn run_for<I: Inputs, K: Sink, L: Sink>(
 /// to the other the reason why there is no message.
 ///
 /// After a writing fault of the first the status is `Fault`, and a front of the text is written. To a terminal the
-/// message goes in hexadecimal digits, and a note goes to the other sink, unless the words choose the format.
+/// message goes in hexadecimal digits, and a note goes to the other sink, unless the words choose the format. Nothing
+/// is written to a sink that had failed before; if that is the first and there was something to write to it, the status
+/// is `Fault`.
 pub fn run<I: Inputs, K: Sink, L: Sink>(
     alloc: Global,
     words: &[String],
@@ -79,13 +68,12 @@ pub fn run<I: Inputs, K: Sink, L: Sink>(
     sink: &mut K,
     lines: &mut L,
 ) -> Status
-    ensures { K.has_failed sink.old ≡ false → L.has_failed lines.old ≡ false
-        → RunsNdefMake I.gives (map string_bytes words.now) terminal
+    ensures { RunsNdefMake I.gives (map string_bytes words.now) terminal
         (three_streams K.Sink L.Sink inputs.old sink.old lines.old)
         (three_streams K.Sink L.Sink inputs.new sink.new lines.new) result }
 {
     match make_page_asked(words) {
-        Some(page) => print(ndef_make_page(page), sink),
+        Some(page) => print(ndef_make_page(page), Status::Clean, sink),
         None => run_for(alloc, words, terminal, inputs, sink, lines),
     }
 }

@@ -1,5 +1,10 @@
 //! Reads cases, one a line, and prints those that the library answers otherwise. Bytes are run through every door of
 //! the library; payloads are read as values, records written, and the carriers found that a message names.
+//!
+//! The files:
+//!
+//! - `suite.rt`: a case. `doors.rt`: the ways to read bytes.
+//! - `values.rt`, `encoding.rt`, `links.rt`: the lines of values, of records that are written, and of links.
 #![tactic(auto)]
 
 use std::alloc::Global;

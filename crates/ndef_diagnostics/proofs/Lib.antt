@@ -1,10 +1,12 @@
 pub mod Counts
+pub mod Ends
+pub mod Hints
 pub mod LengthMismatches
 pub mod Nests
 pub mod PieceFronts
 pub mod RecordTruths
 pub mod References
-pub mod Sames
 pub mod TagMemory
 pub mod Tests
 pub mod Truths
+pub mod WrongRecords

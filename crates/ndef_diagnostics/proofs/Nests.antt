@@ -6,7 +6,7 @@ use Rattle.std.proofs.lemmas.List.{append-nil}
 use Rattle.std.proofs.lemmas.List.Sums.{sum_by-cons}
 use Rattle.ndef_format.specs.Kinds.{kind_name, kind_of}
 use Rattle.ndef_format.specs.Messages.{Item, SpellsBy, SpellsPieces, all_pieces, payload_of, run_record}
-use Rattle.ndef_format.specs.Nested.{IsComplete, IsPayload, checked, is_checked, is_uri, kind_in}
+use Rattle.ndef_format.specs.Nested.{IsComplete, IsPayload, checked, is_uri, kind_in}
 use Rattle.ndef_format.specs.Records.{Piece, Run, SpellsPiece, body, fields, octets, pieces, tnf_of}
 use Rattle.ndef_format.specs.declared.kind.Kind.{Kind}
 use Rattle.ndef_format.specs.declared.kind.Kind.TheVariants.{Other, Uri, Collision}
@@ -14,7 +14,7 @@ use Rattle.ndef_format.specs.declared.profile.Profile.{Profile}
 use Rattle.ndef_format.specs.declared.table.Table.{Table}
 use Rattle.ndef_format.specs.declared.table.Table.TheVariants as tables
 use Rattle.ndef_format.specs.declared.tnf.Tnf.{Tnf}
-use Rattle.ndef_format.specs.declared.tnf.Tnf.TheVariants.{Empty, WellKnown, Media, AbsoluteUri, External, Unknown, Unchanged}
+use Rattle.ndef_format.specs.declared.tnf.Tnf.TheVariants.{WellKnown}
 use Rattle.ndef_lang.specs.KindLaws.{named_kind}
 use Rattle.ndef_diagnostics.specs.Truths.{LeastNestsHold, SelectsAreOneOrFour}
 use Rattle.ndef_diagnostics.proofs.Truths.{lengths_hold}
@@ -51,24 +51,22 @@ firsts p ps bytes s =
 -- ---- kinds
 
 checked_kind : (table : Table) (kind other : Kind) → checked table kind ≡ other → other ≢ Other → kind ≡ other
-checked_kind table kind other e h = by_test (is_checked table kind) e
-  where
-    by_test : (t : Bool) → (if t then kind else Other) ≡ other → kind ≡ other
-    by_test true e = e
-    by_test false e = absurd (h (sym e))
+checked_kind table kind other e h = grind arith
 
-named_of : (tnf : Tnf) (name : List ℕ) (kind : Kind) → kind_of tnf name ≡ kind → kind ≢ Other → name ≡ kind_name kind
-named_of WellKnown name kind e h =
-    named_kind name (λ o. h (sym e ∙ o)) ∙ ap kind_name e
-named_of Empty name kind e h = absurd (h (sym e))
-named_of Media name kind e h = absurd (h (sym e))
-named_of AbsoluteUri name kind e h = absurd (h (sym e))
-named_of External name kind e h = absurd (h (sym e))
-named_of Unknown name kind e h = absurd (h (sym e))
-named_of Unchanged name kind e h = absurd (h (sym e))
+named_of : (tnf : Tnf) (name : List ℕ) (kind : Kind) → kind_of tnf name ≡ kind → kind ≢ Other → (tnf ≡ WellKnown) × (name ≡ kind_name kind)
+named_of WellKnown name kind e h = (refl, named_kind name (λ o. h (sym e ∙ o)) ∙ ap kind_name e)
+named_of _ name kind e h = absurd (h (sym e))
 
 name_in : (table : Table) (tnf : Tnf) (name : List ℕ) (kind : Kind) → kind_in table tnf name ≡ kind → kind ≢ Other → length name ≡ length (kind_name kind)
-name_in table tnf name kind e h = ap length (named_of tnf name kind (checked_kind table (kind_of tnf name) kind e h) h)
+name_in table tnf name kind e h = ap length (named_of tnf name kind (checked_kind table (kind_of tnf name) kind e h) h).1
+
+of_number : (n : ℕ) → tnf_of n ≡ WellKnown → n ≡ 1
+of_number n e = grind arith
+
+pub well_known : (table : Table) (tnf : ℕ) (name : List ℕ) (kind : Kind) → kind_in table (tnf_of tnf) name ≡ kind → kind ≢ Other
+    → (tnf ≡ 1) × (name ≡ kind_name kind)
+well_known table tnf name kind e h =
+    let n = named_of (tnf_of tnf) name kind (checked_kind table (kind_of (tnf_of tnf) name) kind e h) h in (of_number tnf n.0, n.1)
 
 uri_kind : (kind : Kind) → is_uri kind ≡ true → kind ≡ Uri
 uri_kind Uri e = refl

@@ -23,16 +23,12 @@ long_spelled n l = omega (arith, from_be_bytes-to_be_bytes_4 n l)
 
 payload_front : (short : Bool) (n : ℕ) (t more z : List ℕ) → n < 2 ^ 32 → t ++ more ≡ payload_length_octets short n ++ z
     → IsNoMore n (spelled short (take (width_by short) t)) (width_by short ≤ length t)
-payload_front true n [] more z l e = record { bound = omega arith; whole = λ h. absurd (omega (arith, h)) }
 payload_front true n (a ∷ t) more z l e =
     let same : a ≡ n = ap (λ x. slice_index x 0) e in record { bound = omega (arith, same); whole = λ h. same }
-payload_front false n [] more z l e = record { bound = omega arith; whole = λ h. absurd (omega (arith, h)) }
-payload_front false n (a ∷ []) more z l e = record { bound = omega arith; whole = λ h. absurd (omega (arith, h)) }
-payload_front false n (a ∷ b ∷ []) more z l e = record { bound = omega arith; whole = λ h. absurd (omega (arith, h)) }
-payload_front false n (a ∷ b ∷ c ∷ []) more z l e = record { bound = omega arith; whole = λ h. absurd (omega (arith, h)) }
 payload_front false n (a ∷ b ∷ c ∷ d ∷ t) more z l e =
     let same : spelled false (a ∷ b ∷ c ∷ d ∷ []) ≡ n = ap (λ x. spelled false (take 4 x)) e ∙ long_spelled n l in
     record { bound = omega (arith, same); whole = λ h. same }
+payload_front short n t more z l e = record { bound = omega arith; whole = λ h. absurd (omega (arith, h)) }
 
 -- ---- ID_LENGTH
 
@@ -45,17 +41,11 @@ id_width there = if there then 1 else 0
 id_front : (short : Bool) (n : ℕ) (o : Option ℕ) (t more z : List ℕ) → t ++ more ≡ (payload_length_octets short n ++ id_length_octets o) ++ z
     → IsNoMore (unwrap_or o 0) (id_by (is_some o) short t) (width_by short + id_width (is_some o) ≤ length t)
 id_front short n None t more z e = record { bound = omega arith; whole = λ h. refl }
-id_front true n (Some d) [] more z e = record { bound = omega arith; whole = λ h. absurd (omega (arith, h)) }
-id_front true n (Some d) (a ∷ []) more z e = record { bound = omega arith; whole = λ h. absurd (omega (arith, h)) }
 id_front true n (Some d) (a ∷ b ∷ t) more z e =
     let same : b ≡ d = ap (λ x. slice_index x 1) e in record { bound = omega (arith, same); whole = λ h. same }
-id_front false n (Some d) [] more z e = record { bound = omega arith; whole = λ h. absurd (omega (arith, h)) }
-id_front false n (Some d) (a ∷ []) more z e = record { bound = omega arith; whole = λ h. absurd (omega (arith, h)) }
-id_front false n (Some d) (a ∷ b ∷ []) more z e = record { bound = omega arith; whole = λ h. absurd (omega (arith, h)) }
-id_front false n (Some d) (a ∷ b ∷ c ∷ []) more z e = record { bound = omega arith; whole = λ h. absurd (omega (arith, h)) }
-id_front false n (Some d) (a ∷ b ∷ c ∷ f ∷ []) more z e = record { bound = omega arith; whole = λ h. absurd (omega (arith, h)) }
 id_front false n (Some d) (a ∷ b ∷ c ∷ f ∷ g ∷ t) more z e =
     let same : g ≡ d = ap (λ x. slice_index x 4) e in record { bound = omega (arith, same); whole = λ h. same }
+id_front short n o t more z e = record { bound = omega arith; whole = λ h. absurd (omega (arith, h)) }
 
 -- ---- all lengths
 
@@ -98,17 +88,13 @@ pub record FrontTells (p : Piece) (short : Bool) (s : List ℕ) : Type 0 where
   pub whole_payload : 2 + width (slice_index s 0) ≤ length s → payload_length s ≡ length p.payload
 
 some_width : (short : Bool) → 1 ≤ width_by short
-some_width true = omega arith
-some_width false = omega arith
+some_width short = grind arith
 
 none_id : (there short : Bool) → id_by there short [] ≡ 0
-none_id true true = refl
-none_id true false = refl
-none_id false short = refl
+none_id there short = grind arith
 
 none_spelled : (short : Bool) → spelled short (take (width_by short) []) ≡ 0
-none_spelled true = refl
-none_spelled false = refl
+none_spelled short = grind arith
 
 no_id_is : (o : Option ℕ) → is_some o ≡ false → 0 ≡ unwrap_or o 0
 no_id_is None e = refl

@@ -1,20 +1,19 @@
 -- The sentences about the sizes of records are true.
-use Rattle.std.proofs.Common.{◌≡◌, ◌≢◌, ℕ, ◌+◌, ◌-◌, ◌<◌, ◌≤◌, ◌==◌, Bool, true, false, List, [], ◌∷◌, ◌++◌, length, refl, sym, ◌∙◌, ap, subst, arith, length-append, le-ltb, lt-ltb, inl, inr}
+use Rattle.std.proofs.Common.{◌≡◌, ◌≢◌, ℕ, ◌+◌, ◌-◌, ◌<◌, ◌≤◌, ◌==◌, Bool, true, false, List, [], ◌∷◌, ◌++◌, length, refl, sym, ◌∙◌, ap, subst, arith, length-append, le-ltb, inl, inr}
 use Rattle.std.specs.Prelude.{if◌then◌else◌, not, ◌&&◌, ◌||◌, nat_lt, slice_index}
-use Rattle.std.proofs.lemmas.Bool.{cases_lt, eq-eqb, leb-true, ltb-false, ltb-true, ne_eqb, or_left, or_right}
+use Rattle.std.proofs.lemmas.Bool.{eq-eqb, leb-true}
 use Rattle.std.proofs.lemmas.List.{append-nil}
 use Rattle.ndef_format.specs.HeadReasons.{is_set, tnf_number, width}
-use Rattle.ndef_format.specs.Messages.{SpellsPieces}
+use Rattle.ndef_format.specs.Messages.{EndsOnce, SpellsPieces}
 use Rattle.ndef_format.specs.Records.{HasShape, Piece, SpellsPiece, tnf_of}
 use Rattle.ndef_format.specs.declared.tnf.Tnf.{Tnf}
-use Rattle.ndef_format.specs.declared.tnf.Tnf.TheVariants.{Empty, WellKnown, Media, AbsoluteUri, External, Unknown, Unchanged}
 use Rattle.ndef_piece.specs.HeaderLaws.{id_count}
 use Rattle.ndef_diagnostics.specs.Begun.{before_payload, has_kind, head_length, id_length, is_empty_record, is_length_whole, is_lengths_whole, is_size_known, kind_to_come, least_record, payload_length}
 use Rattle.ndef_diagnostics.specs.PosterHeads.{before_uri, has_no_payload, least_uri, may_be_uri, of_last_uri, of_rest}
-use Rattle.ndef_diagnostics.specs.Truths.{CollisionsDoNotFit, EndsWithLast, HasUri, IsMissing, IsShapedPiece, IsUriPiece, LeastRecordsHold, MissingIsTrue, RecordsDoNotFit, UrisDoNotFit}
-use Rattle.ndef_diagnostics.specs.Expectations.{of_collision_end, of_collision_size, of_end, of_size}
+use Rattle.ndef_diagnostics.specs.Truths.{CollisionsDoNotFit, HasUri, IsShapedPiece, IsUriPiece, LeastRecordsHold, MissingIsTrue, RecordsDoNotFit, UrisDoNotFit}
+use Rattle.ndef_diagnostics.specs.Expectations.{of_size}
 use Rattle.ndef_diagnostics.specs.declared.expected.Expected.{Expected}
-use Rattle.ndef_diagnostics.specs.declared.expected.Expected.TheVariants.{CollisionLength, NextChunk, NextRecord, Nothing}
+use Rattle.ndef_diagnostics.specs.declared.expected.Expected.TheVariants.{CollisionLength, Nothing}
 use Rattle.ndef_diagnostics.proofs.PieceFronts.{FrontTells, front_size, front_tells, head_of, id_of}
 
 -- ---- one record
@@ -27,8 +26,7 @@ head_some : (p : Piece) (short : Bool) → 2 ≤ head_of p short
 head_some p short = omega arith
 
 head_long : (p : Piece) (short : Bool) → 3 ≤ head_of p short
-head_long p true = omega arith
-head_long p false = omega arith
+head_long p short = grind arith
 
 least_whole : (p : Piece) (short : Bool) (s front : List ℕ) → FrontTells p short s
     → length front ≡ head_of p short + length p.kind + id_of p short + length p.payload → is_lengths_whole s ≡ true
@@ -41,26 +39,13 @@ least_whole p short s front f e w =
 -- ---- the shape of a record
 
 shaped_kind : (t : Tnf) (k i p : ℕ) → HasShape t k i p → has_kind t ≡ true → 1 ≤ k
-shaped_kind Empty k i p h e = cc
-shaped_kind Unknown k i p h e = cc
-shaped_kind Unchanged k i p h e = cc
-shaped_kind WellKnown k i p h e = omega (arith, h)
-shaped_kind Media k i p h e = omega (arith, h)
-shaped_kind AbsoluteUri k i p h e = omega (arith, h)
-shaped_kind External k i p h e = omega (arith, h)
+shaped_kind t k i p h e = grind arith
 
 shaped_empty : (t : Tnf) (k i p : ℕ) → HasShape t k i p → is_empty_record t ≡ true → (k ≡ 0) × (i ≡ 0) × (p ≡ 0)
-shaped_empty Empty k i p h e = h
-shaped_empty Unknown k i p h e = cc
-shaped_empty Unchanged k i p h e = cc
-shaped_empty WellKnown k i p h e = cc
-shaped_empty Media k i p h e = cc
-shaped_empty AbsoluteUri k i p h e = cc
-shaped_empty External k i p h e = cc
+shaped_empty t k i p h e = grind arith
 
 to_come : (b : Bool) (k : ℕ) → (b ≡ true → 1 ≤ k) → (if b then 1 else 0) ≤ k
-to_come true k f = f refl
-to_come false k f = omega arith
+to_come b k f = grind arith
 
 kind_least : (p : Piece) (short : Bool) (s : List ℕ) → FrontTells p short s → IsShapedPiece p
     → slice_index s 1 + kind_to_come s ≤ length p.kind
@@ -77,9 +62,7 @@ shaped_most : (p : Piece) (short : Bool) (s front : List ℕ) → FrontTells p s
 shaped_most p short s front f h e = omega (arith, f.head, kind_least p short s f h, f.id, f.payload, e)
 
 none_to_come : (s : List ℕ) → 2 ≤ length s → kind_to_come s ≡ 0
-none_to_come [] l = refl
-none_to_come (b ∷ []) l = absurd (omega (arith, l))
-none_to_come (b ∷ c ∷ s) l = refl
+none_to_come s l = grind arith
 
 -- the length of a record with this head is known
 shaped_whole : (p : Piece) (short : Bool) (s front : List ℕ) → FrontTells p short s → IsShapedPiece p
@@ -134,7 +117,7 @@ differ : {A : Type 0} → true ≡ false → A
 differ e = cc
 
 filled : (p : Piece) (ps : List Piece) (left : ℕ) (s more : List ℕ) → 0 < length s → SpellsPieces (p ∷ ps) (s ++ more)
-    → EndsWithLast (p ∷ ps) → length (s ++ more) ≡ left → (short : Bool) × Filled p ps short left s
+    → EndsOnce (p ∷ ps) → length (s ++ more) ≡ left → (short : Bool) × Filled p ps short left s
 filled p [] left s more l (short, front, rest, e, i, n) last len = (
   short,
   record {
@@ -163,17 +146,9 @@ filled p (q ∷ ps) left s more l (short, front, rest, e, i, (form, next, later,
 )
 
 -- a record of at least a size, which is known or not
-size_no : (known last : Bool) (size left total : ℕ) → of_size known last size left ≢ Nothing → size ≤ total → total ≤ left
+size_no : (collision known last : Bool) (size left total : ℕ) → of_size collision known last size left ≢ Nothing → size ≤ total → total ≤ left
     → (known ≡ true → size ≡ total) → (last ≡ true → total ≡ left) → (last ≡ false → total + 3 ≤ left) → ⊥
-size_no known last size left total h most fits whole end more =
-    h (rw (le-ltb left size (omega (arith, most, fits))) (by_known known whole)) where
-      by_last : (last : Bool) → size ≡ total → (last ≡ true → total ≡ left) → (last ≡ false → total + 3 ≤ left) → of_end last size left ≡ Nothing
-      by_last true e end more = rw (eq-eqb size left (e ∙ end refl)) refl
-      by_last false e end more = rw (le-ltb (left - size) 3 (let m = more refl in omega (arith, e, m))) refl
-
-      by_known : (known : Bool) → (known ≡ true → size ≡ total) → (if known then of_end last size left else Nothing) ≡ Nothing
-      by_known true whole = by_last last (whole refl) end more
-      by_known false whole = refl
+size_no collision known last size left total h most fits whole end more = grind arith
 
 pub records_true : RecordsDoNotFit
 records_true left s l h [] more i last shaped len = absurd last
@@ -182,15 +157,14 @@ records_true left s l h (p ∷ ps) more i last shaped len =
     let t = k.tells in
     let known : is_size_known s ≡ true → least_record s + kind_to_come s ≡ length k.front =
     λ w. (let q = shaped_whole p short s k.front t shaped.0 k.size w in omega (arith, q.0, q.1)) in
-    size_no (is_size_known s) (is_set 6 (slice_index s 0)) (least_record s + kind_to_come s) left (length k.front) h
+    size_no false (is_size_known s) (is_set 6 (slice_index s 0)) (least_record s + kind_to_come s) left (length k.front) h
     (shaped_most p short s k.front t shaped.0 k.size) k.fits known (λ b. k.last (sym t.last ∙ b))
     (λ b. k.others (sym t.last ∙ b))
 
 -- ---- the URI of a poster
 
 some_payload : (whole : Bool) (n : ℕ) → (whole ≡ true → 1 ≤ n) → (whole && (n == 0)) ≡ false
-some_payload true n f = ne_eqb n 0 (λ e. let m = f refl in omega (arith, m, e))
-some_payload false n f = refl
+some_payload whole n f = grind arith
 
 uri_payload : (p : Piece) (short : Bool) (s : List ℕ) → FrontTells p short s → IsUriPiece p → has_no_payload s ≡ false
 uri_payload p short s t u = some_payload (is_length_whole s) (payload_length s)
@@ -198,10 +172,7 @@ uri_payload p short s t u = some_payload (is_length_whole s) (payload_length s)
 
 uri_kind : (p : Piece) (short : Bool) (s : List ℕ) → FrontTells p short s → IsUriPiece p
     → (nat_lt (length s) 2 || (slice_index s 1 == 1)) ≡ true
-uri_kind p short s t u = elim (cases_lt (length s) 2) [
-  | inl l ↦ or_left _ _ (lt-ltb (length s) 2 l)
-  | inr l ↦ or_right _ _ (eq-eqb (slice_index s 1) 1 (t.whole_kind l ∙ u.kind))
-]
+uri_kind p short s t u = let k = t.whole_kind in let e = u.kind in grind arith
 
 uri_may : (p : Piece) (short : Bool) (s : List ℕ) → FrontTells p short s → IsUriPiece p → may_be_uri s ≡ true
 uri_may p short s t u =
@@ -216,9 +187,7 @@ last_no p ps short left s k u e =
 
 known_and : (known may : Bool) (w : Expected) → (if known && not may then w else Nothing) ≢ Nothing
     → (known ≡ true) × (may ≡ false)
-known_and true false w h = (refl, refl)
-known_and true true w h = absurd (h refl)
-known_and false may w h = absurd (h refl)
+known_and known may w h = grind arith
 
 before_no : (p : Piece) (ps : List Piece) (short : Bool) (left : ℕ) (s : List ℕ) → Filled p ps short left s
     → IsShapedPiece p → HasUri (p ∷ ps) → before_uri left s ≢ Nothing → ⊥
@@ -246,26 +215,11 @@ uris_true left s l h (p ∷ ps) more i last shaped uri len =
 
 -- ---- the collision record of a request
 
-collision_no : (known last : Bool) (size left total : ℕ) → of_collision_size known last size left ≢ Nothing → size ≤ total → total ≤ left
-    → (known ≡ true → size ≡ total) → (last ≡ true → total ≡ left) → (last ≡ false → total + 3 ≤ left) → ⊥
-collision_no known last size left total h most fits whole end more =
-    h (rw (le-ltb left size (omega (arith, most, fits))) (by_known known whole)) where
-      by_last : (last : Bool) → size ≡ total → (last ≡ true → total ≡ left) → (last ≡ false → total + 3 ≤ left)
-          → of_collision_end last size left ≡ Nothing
-      by_last true e end more = rw (eq-eqb size left (e ∙ end refl)) refl
-      by_last false e end more = rw (le-ltb (left - size) 3 (let m = more refl in omega (arith, e, m))) refl
-
-      by_known : (known : Bool) → (known ≡ true → size ≡ total) → (if known then of_collision_end last size left else Nothing) ≡ Nothing
-      by_known true whole = by_last last (whole refl) end more
-      by_known false whole = refl
-
 has_two : (whole : Bool) (given : ℕ) → (whole ≡ true → given ≡ 2) → (whole && not (given == 2)) ≡ false
-has_two true given f = ap (λ n. not (n == 2)) (f refl)
-has_two false given f = refl
+has_two whole given f = grind arith
 
 id_known : (there whole : Bool) (n m : ℕ) → (there ≡ false → n ≡ m) → (whole ≡ true → n ≡ m) → (not there || whole) ≡ true → n ≡ m
-id_known false whole n m f g h = f refl
-id_known true whole n m f g h = g h
+id_known there whole n m f g h = grind arith
 
 pub collisions_true : CollisionsDoNotFit
 collisions_true left s l h [] more i last two len = absurd last
@@ -277,7 +231,7 @@ collisions_true left s l h (p ∷ ps) more i last two len =
     let ends = is_set 6 (slice_index s 0) in
     let size = head_length s + 4 + id_length s in
     let known = not there || whole in
-    let rest = of_collision_size known ends size left in
+    let rest = of_size true known ends size left in
     let all : whole ≡ true → head_length s ≤ length s = leb-true (head_length s) (length s) in
     let length_whole = is_length_whole s in
     let payload : length_whole ≡ true → payload_length s ≡ 2 =
@@ -286,22 +240,13 @@ collisions_true left s l h (p ∷ ps) more i last two len =
     subst (λ b. (if b then CollisionLength (payload_length s) else rest) ≢ Nothing) (has_two length_whole (payload_length s) payload) h in
     let id : known ≡ true → id_length s ≡ id_of p short =
     id_known there whole (id_length s) (id_of p short) t.no_id (λ w. t.whole_id (all w)) in
-    collision_no known ends size left (length k.front) no (omega (arith, t.head, t.id, k.size, two.0, two.1)) k.fits
+    size_no true known ends size left (length k.front) no (omega (arith, t.head, t.id, k.size, two.0, two.1)) k.fits
     (λ b. omega (arith, t.head, id b, k.size, two.0, two.1)) (λ b. k.last (sym t.last ∙ b)) (λ b. k.others (sym t.last ∙ b))
 
 -- ---- octets that are missing
 
-missing_by : (b : Bool) (w v : Expected) (count : ℕ) → (b ≡ true → IsMissing w count) → (b ≡ false → IsMissing v count)
-    → IsMissing (if b then w else v) count
-missing_by true w v count f g = f refl
-missing_by false w v count f g = g refl
-
-nothing_missing : (in_chunks : Bool) (count : ℕ) → IsMissing (if in_chunks then NextChunk else NextRecord) count
-nothing_missing true count = tt
-nothing_missing false count = tt
-
 pub missing_true : MissingIsTrue
-missing_true in_chunks short p [] more i = nothing_missing in_chunks (length more)
+missing_true in_chunks short p [] more i = grind arith
 missing_true in_chunks short p (h ∷ []) more i = omega (arith, piece_long p short (h ∷ more) i)
 missing_true in_chunks short p (h ∷ k ∷ u) more i =
     let s = h ∷ k ∷ u in
@@ -312,14 +257,7 @@ missing_true in_chunks short p (h ∷ k ∷ u) more i =
     let lengths = 2 + width h in
     let head = head_length s in
     let before = before_payload s in
-    missing_by (nat_lt (length s) lengths) _ _ (length more)
-    (λ b. let n = ltb-true (length s) lengths b in omega (arith, n, t.head, e, a))
-    (λ b. missing_by (nat_lt (length s) head) _ _ (length more)
-    (λ b. let n = ltb-true (length s) head b in omega (arith, n, t.head, e, a))
-    (λ b. let all = ltb-false (length s) head b in
-    missing_by (nat_lt (length s) (head + k)) _ _ (length more)
-    (λ b. let n = ltb-true (length s) (head + k) b in omega (arith, n, t.head, kind, e, a))
-    (λ b. missing_by (nat_lt (length s) before) _ _ (length more)
-    (λ b. let n = ltb-true (length s) before b in omega (arith, n, t.head, kind, t.whole_id all, e, a))
-    (λ b. let n = ltb-false (length s) before b in
-    omega (arith, n, t.head, kind, t.whole_id all, t.whole_payload (omega (arith, all)), e, a)))))
+    let whole = t.whole_id in
+    let all = t.whole_payload in
+    let start = t.head in
+    grind arith

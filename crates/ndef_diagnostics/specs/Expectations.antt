@@ -18,6 +18,7 @@ use Rattle.ndef_diagnostics.specs.PosterHeads.{of_uri}
 use Rattle.ndef_diagnostics.specs.LengthMismatches.{least_nest, length_mismatch, of_least}
 use Rattle.ndef_diagnostics.specs.declared.expected.Expected.{Expected}
 use Rattle.ndef_diagnostics.specs.declared.expected.Expected.TheVariants as expected
+use Rattle.ndef_diagnostics.specs.declared.expected.Whose.TheVariants as whose
 
 -- ---- where the input has ended
 
@@ -71,42 +72,36 @@ in_message s =
 abbrev pub is_collision : Table → (number : ℕ) → Bool
 is_collision table number = is_table tables.Request table && (number == 1)
 
--- NDEF 1.0, ME: a last record ends with the payload, and any other leaves space for another
-abbrev pub of_end : (last : Bool) → (size left : ℕ) → Expected
-of_end last size left =
-    if last then (if size == left then expected.Nothing else expected.LongerLast size left)
-    else (if nat_lt (left - size) 3 then expected.RoomForNext (left - size) else expected.Nothing)
+-- NDEF 1.0, ME: a last record, or a collision record, ends with the payload, and any other leaves space for another
+abbrev pub of_end : (collision last : Bool) → (size left : ℕ) → Expected
+of_end collision last size left =
+    if last
+    then (if size == left then expected.Nothing
+    else expected.Size (if collision then whose.LastCollision else whose.LastRecord) size left)
+    else (if nat_lt (left - size) 3
+    then expected.Size (if collision then whose.AfterCollision else whose.NextRecord) 3 (left - size)
+    else expected.Nothing)
 
--- NDEF 1.0, record layout: a record of at least this size, which is known to be its size or not
-abbrev pub of_size : (known last : Bool) → (size left : ℕ) → Expected
-of_size known last size left =
-    if nat_lt left size then expected.ShorterRecord size left
-    else (if known then of_end last size left else expected.Nothing)
-
--- NDEF 1.0, ME: a collision record that is the last ends with the payload, and after any other comes another record
-abbrev pub of_collision_end : (last : Bool) → (size left : ℕ) → Expected
-of_collision_end last size left =
-    if last then (if size == left then expected.Nothing else expected.LastCollision size left)
-    else (if nat_lt (left - size) 3 then expected.AfterCollision (left - size) else expected.Nothing)
-
--- NDEF 1.0, record layout: a collision record of at least this size, which is known to be its size or not
-abbrev pub of_collision_size : (known last : Bool) → (size left : ℕ) → Expected
-of_collision_size known last size left =
-    if nat_lt left size then expected.ShorterCollision size left
-    else (if known then of_collision_end last size left else expected.Nothing)
+-- NDEF 1.0, record layout: a record, or a collision record, of at least this size, which is known to be its size or not
+abbrev pub of_size : (collision known last : Bool) → (size left : ℕ) → Expected
+of_size collision known last size left =
+    if nat_lt left size then expected.Size (if collision then whose.Collision else whose.Record) size left
+    else (if known then of_end collision last size left
+    else (if not last && nat_lt (left - size) 3 then expected.Size whose.AfterShortest 3 (left - size)
+    else expected.Nothing))
 
 -- Connection Handover 1.2: the expectation after these octets of the head of the first record of a request, which is a
 -- collision record: its TYPE and its payload have two octets each
 abbrev pub of_collision : (left : ℕ) → List ℕ → Expected
 of_collision left s =
     if is_length_whole s && not (payload_length s == 2) then expected.CollisionLength (payload_length s)
-    else of_collision_size (not (is_set 3 (slice_index s 0)) || is_lengths_whole s) (is_set 6 (slice_index s 0))
+    else of_size true (not (is_set 3 (slice_index s 0)) || is_lengths_whole s) (is_set 6 (slice_index s 0))
     (head_length s + 4 + id_length s) left
 
 -- NDEF 1.0, record layout: the expectation after these octets of a head, where this is left of the payload from the
 -- first of them on
 abbrev pub of_head : (left : ℕ) → List ℕ → Expected
-of_head left s = of_size (is_size_known s) (is_set 6 (slice_index s 0)) (least_record s + kind_to_come s) left
+of_head left s = of_size false (is_size_known s) (is_set 6 (slice_index s 0)) (least_record s + kind_to_come s) left
 
 -- RTD Smart Poster 1.0, URI record: the same of a poster, in which a URI has to come where nothing else is wanted
 abbrev pub or_uri : Table → Expected → (left : ℕ) → List ℕ → Expected

@@ -81,6 +81,11 @@ abbrev pub Applies : LimitValues → (bytes : List ℕ) → Refusal → Hint →
 Applies limits bytes refusal hint =
     IsOfDump bytes refusal hint ⊎ (IsNoDump bytes refusal × AppliesElse limits bytes refusal hint)
 
+-- At most one hint applies.
+abbrev pub OneHint : Type 0
+OneHint = (limits : LimitValues) (bytes : List ℕ) (refusal : Refusal) (hint other : Hint)
+    → Applies limits bytes refusal hint → Applies limits bytes refusal other → hint ≡ other
+
 -- ---- sentences, and what they name
 
 -- the bytes that surround a message on a tag

@@ -15,6 +15,7 @@ use Rattle.ndef_lang.specs.declared.lengths.Lengths.TheVariants.{Exactly, From}
 use Rattle.ndef_lang.specs.Machine.Leaf.{field_after, leaf_lengths, leaf_of}
 use Rattle.ndef_diagnostics.specs.declared.expected.Expected.{Expected}
 use Rattle.ndef_diagnostics.specs.declared.expected.Expected.TheVariants as expected
+use Rattle.ndef_diagnostics.specs.declared.expected.Whose.TheVariants as whose
 
 -- RTD Smart Poster 1.0 and Connection Handover 1.2: the length of the shortest payload that holds this message: a URI
 -- with an identifier code; a version and a collision record; a version
@@ -45,13 +46,13 @@ abbrev pub of_stage : Stage → (left : ℕ) → Expected
 of_stage stages.Utf16 left = if left % 2 == 1 then expected.EvenText else expected.Nothing
 of_stage stages.AuxiliaryCount left = if left == 0 then expected.AuxiliaryCount else expected.Nothing
 of_stage (stages.References count) left =
-    if nat_lt left count then expected.FewerAuxiliary count left else expected.Nothing
+    if nat_lt left count then expected.Size whose.Auxiliary count left else expected.Nothing
 of_stage stage left = expected.Nothing
 
 -- RTD Text 1.0 and Connection Handover 1.2: a field of this name is no longer than what is left, and its stage fits
 abbrev pub of_field : FieldName → Leaf → (left : ℕ) → Expected
 of_field name (Field n class next) left =
-    if nat_lt left n then expected.ShorterField name n left else of_stage next (left - n)
+    if nat_lt left n then expected.Size (whose.Field name) n left else of_stage next (left - n)
 of_field name leaf left = expected.Nothing
 
 -- Connection Handover 1.2, Error record: the data of a reason has these lengths

@@ -1,10 +1,10 @@
 -- The expectation in a head of a smart poster before which no URI has come.
 use Rattle.std.specs.Prelude.{ℕ, ◌+◌, ◌-◌, ◌==◌, ◌&&◌, ◌||◌, not, if◌then◌else◌, Bool, List, length, max, nat_le, nat_lt, slice_index}
 use Rattle.ndef_format.specs.HeadReasons.{is_set, tnf_number}
-use Rattle.ndef_format.specs.declared.kind.Kind.TheVariants as kinds
 use Rattle.ndef_diagnostics.specs.Begun.{head_length, id_length, is_length_whole, is_size_known, least_record, payload_length}
 use Rattle.ndef_diagnostics.specs.declared.expected.Expected.{Expected}
 use Rattle.ndef_diagnostics.specs.declared.expected.Expected.TheVariants as expected
+use Rattle.ndef_diagnostics.specs.declared.expected.Whose.TheVariants as whose
 
 -- NDEF 1.0, PAYLOAD_LENGTH: it has come, and is 0
 abbrev pub has_no_payload : List ℕ → Bool
@@ -19,23 +19,20 @@ may_be_uri s =
 abbrev pub least_uri : List ℕ → ℕ
 least_uri s = head_length s + 1 + id_length s + max 1 (payload_length s)
 
--- NDEF 1.0, ID_LENGTH: a record with this head and the longest id is no shorter than what is left
-abbrev pub reaches_end : (left : ℕ) → List ℕ → Bool
-reaches_end left s = nat_le left (head_length s + slice_index s 1 + 255)
-
 -- NDEF 1.0, PAYLOAD_LENGTH: none of its octets has come, or all have
 abbrev pub is_uncut : List ℕ → Bool
 is_uncut s = nat_le (length s) 2 || is_length_whole s
 
--- RTD Smart Poster 1.0, URI record: the last record of a poster has to be its URI
+-- RTD Smart Poster 1.0, URI record: the last record of a poster has to be its URI, which has a payload
 abbrev pub of_last_uri : (left : ℕ) → List ℕ → Expected
 of_last_uri left s =
-    if has_no_payload s && reaches_end left s then expected.LeastLength kinds.Uri 1 0
-    else (if nat_lt left (least_uri s) && is_uncut s then expected.ShorterUri (least_uri s) left else expected.Nothing)
+    if has_no_payload s then expected.EmptyUri
+    else (if nat_lt left (least_uri s) && is_uncut s
+    then expected.Size whose.LastUri (least_uri s) left else expected.Nothing)
 
 -- RTD Smart Poster 1.0, URI record: after a record of this size that isn't the URI of a poster comes one that is
 abbrev pub of_rest : (left size : ℕ) → Expected
-of_rest left size = if nat_lt (left - size) 5 then expected.UriToFollow (left - size) else expected.Nothing
+of_rest left size = if nat_lt (left - size) 5 then expected.Size whose.NextUri 5 (left - size) else expected.Nothing
 
 -- the same, after a head
 abbrev pub before_uri : (left : ℕ) → List ℕ → Expected

@@ -10,6 +10,8 @@ use Rattle.ndef_fields.specs.declared.name.FieldName.{FieldName}
 use Rattle.ndef_fields.specs.declared.name.FieldName.TheVariants as names
 use Rattle.ndef_diagnostics.specs.declared.expected.Expected.{Expected}
 use Rattle.ndef_diagnostics.specs.declared.expected.Expected.TheVariants as expected
+use Rattle.ndef_diagnostics.specs.declared.expected.Whose.{Whose}
+use Rattle.ndef_diagnostics.specs.declared.expected.Whose.TheVariants as whose
 
 -- ---- words
 
@@ -27,7 +29,7 @@ given_text n = counted n (codes " was given.") (codes " were given.")
 
 -- the octets left in the payload, as the end of a sentence
 abbrev pub left_text : ℕ → List ℕ
-left_text n = counted n (codes " is left in the payload.") (codes " are left in the payload.")
+left_text n = counted n (codes " is left") (codes " are left") ++ codes " in the payload."
 
 -- RTD 1.0, well-known types: a payload of this kind, as the subject of a sentence
 abbrev pub kind_noun : Kind → List ℕ
@@ -81,75 +83,43 @@ error_text reason there given =
     codes "The data of error reason " ++ decimal reason ++ codes " has " ++ octets_text there
     ++ codes "; " ++ given_text given
 
--- a field of a payload is longer than what is left
-abbrev pub shorter_text : FieldName → (size left : ℕ) → List ℕ
-shorter_text name size left =
-    codes "The " ++ name_text name ++ codes " has " ++ octets_text size ++ codes "; " ++ left_text left
+-- NDEF 1.0, record layout, ME, RTD Smart Poster 1.0 and Connection Handover 1.2: what has a size, as the subject, to
+-- the number of its octets
+abbrev pub whose_text : Whose → (size : ℕ) → List ℕ
+whose_text (whose.Field name) size = codes "The " ++ name_text name ++ codes " has "
+whose_text whose.Auxiliary size =
+    decimal size ++ codes " auxiliary reference" ++ (if size == 1 then codes " has" else codes "s have")
+    ++ codes " to follow, of at least "
+whose_text whose.Record size = codes "This record has at least "
+whose_text whose.LastRecord size = codes "This record is the last (ME) and has "
+whose_text whose.NextRecord size = codes "Another record has to follow (ME is clear), of at least "
+whose_text whose.AfterShortest size =
+    codes "After this record at its shortest another has to follow (ME is clear), of at least "
+whose_text whose.LastUri size = codes "The last record (ME) of this poster has to be its URI (`U`), of at least "
+whose_text whose.NextUri size =
+    codes "The URI (`U`) of this smart poster has to follow (ME is clear), in a record of at least "
+whose_text whose.Collision size = codes "A request begins with a collision record (`cr`), here of at least "
+whose_text whose.LastCollision size =
+    codes "A request begins with a collision record (`cr`), which as the last (ME) has "
+whose_text whose.AfterCollision size =
+    codes "After its collision record (`cr`) another record has to follow (ME is clear), of at least "
 
--- Connection Handover 1.2, Alternative Carrier record: its auxiliary references don't fit
-abbrev pub auxiliary_text : (count left : ℕ) → List ℕ
-auxiliary_text count left =
-    counted count (codes " auxiliary reference has") (codes " auxiliary references have") ++ codes " at least "
-    ++ octets_text count ++ codes "; " ++ left_text left
-
--- NDEF 1.0, record layout: a record doesn't fit the payload that holds its message
-abbrev pub record_text : (least left : ℕ) → List ℕ
-record_text least left = codes "This record has at least " ++ octets_text least ++ codes "; " ++ left_text left
-
--- NDEF 1.0, ME: the last record ends before the payload that holds its message
-abbrev pub last_text : (size left : ℕ) → List ℕ
-last_text size left =
-    codes "This record is the last (ME) and has " ++ octets_text size ++ codes "; " ++ left_text left
-
--- NDEF 1.0, ME: another record doesn't fit the payload
-abbrev pub next_text : (left : ℕ) → List ℕ
-next_text left =
-    codes "Another record has to follow (ME is clear), of at least 3 octets" ++ codes "; " ++ left_text left
+-- what has a size doesn't fit what is left
+abbrev pub size_text : Whose → (size left : ℕ) → List ℕ
+size_text w size left = whose_text w size ++ octets_text size ++ codes "; " ++ left_text left
 
 -- RTD Smart Poster 1.0: none of the records is a URI
 abbrev pub poster_text : (number : ℕ) → List ℕ
 poster_text number =
     codes "Record " ++ decimal number ++ codes " is the last of this smart poster, and none is a URI (`U`)."
 
--- RTD Smart Poster 1.0, URI record: the last record has to be it, and doesn't fit the payload
-abbrev pub last_uri_text : (least left : ℕ) → List ℕ
-last_uri_text least left =
-    codes "The last record (ME) of this poster has to be its URI (`U`), of at least " ++ octets_text least
-    ++ codes "; " ++ left_text left
-
--- RTD Smart Poster 1.0, URI record: it doesn't fit the payload after this record
-abbrev pub uri_to_follow_text : (left : ℕ) → List ℕ
-uri_to_follow_text left =
-    codes "The URI (`U`) of this smart poster has to follow (ME is clear), in a record of at least 5 octets; "
-    ++ left_text left
-
 -- RTD Smart Poster 1.0: two of the records are URIs
 abbrev pub second_text : (number : ℕ) → List ℕ
 second_text number = codes "Record " ++ decimal number ++ codes " is a second URI (`U`) in this smart poster."
 
--- Connection Handover 1.2, Collision Resolution record: it begins a request
-abbrev pub begins_text : List ℕ
-begins_text = codes "A request begins with a collision record (`cr`)"
-
 -- Connection Handover 1.2, Collision Resolution record: it has two octets
 abbrev pub collision_text : (given : ℕ) → List ℕ
-collision_text given = begins_text ++ codes " of 2 octets; " ++ given_text given
-
--- Connection Handover 1.2, Collision Resolution record: it doesn't fit the payload
-abbrev pub long_collision_text : (least left : ℕ) → List ℕ
-long_collision_text least left =
-    begins_text ++ codes ", here of at least " ++ octets_text least ++ codes "; " ++ left_text left
-
--- Connection Handover 1.2, Collision Resolution record: it is the last record, and ends before the payload
-abbrev pub last_collision_text : (size left : ℕ) → List ℕ
-last_collision_text size left =
-    begins_text ++ codes ", which as the last (ME) has " ++ octets_text size ++ codes "; " ++ left_text left
-
--- Connection Handover 1.2, Collision Resolution record: another record after it doesn't fit the payload
-abbrev pub after_collision_text : (left : ℕ) → List ℕ
-after_collision_text left =
-    codes "After its collision record (`cr`) another record has to follow (ME is clear), of at least 3 octets; "
-    ++ left_text left
+collision_text given = codes "A request begins with a collision record (`cr`) of 2 octets; " ++ given_text given
 
 -- NDEF 1.0, RTD Text 1.0, RTD URI 1.0, RTD Smart Poster 1.0 and Connection Handover 1.2: the sentence for the
 -- expectation, or the meaning of the reason
@@ -163,22 +133,15 @@ expected_text reason (expected.FixedLength kind there given) = length_text kind 
 expected_text reason (expected.LeastLength kind least given) = least_text kind least given
 expected_text reason (expected.SelectLength given) = select_text given
 expected_text reason (expected.ErrorLength error there given) = error_text error there given
-expected_text reason (expected.ShorterField name size left) = shorter_text name size left
 expected_text reason expected.EvenText = codes "The text in UTF-16 has an odd number of octets."
 expected_text reason expected.WholeCharacter = codes "The payload ends within a character of the text."
 expected_text reason expected.AuxiliaryCount =
     codes "The alternative carrier ends before its number of auxiliary references."
-expected_text reason (expected.FewerAuxiliary count left) = auxiliary_text count left
-expected_text reason (expected.ShorterRecord least left) = record_text least left
-expected_text reason (expected.LongerLast size left) = last_text size left
-expected_text reason (expected.RoomForNext left) = next_text left
+expected_text reason (expected.Size w size left) = size_text w size left
 expected_text reason (expected.UriInPoster number) = poster_text number
-expected_text reason (expected.ShorterUri least left) = last_uri_text least left
-expected_text reason (expected.UriToFollow left) = uri_to_follow_text left
+expected_text reason expected.EmptyUri =
+    codes "The last record (ME) of this poster has to be its URI (`U`), whose payload is never empty."
 expected_text reason (expected.OneUri number) = second_text number
 expected_text reason expected.CollisionFirst =
     codes "This request must begin with a collision record (`cr`); its first record is another."
 expected_text reason (expected.CollisionLength given) = collision_text given
-expected_text reason (expected.ShorterCollision least left) = long_collision_text least left
-expected_text reason (expected.LastCollision size left) = last_collision_text size left
-expected_text reason (expected.AfterCollision left) = after_collision_text left

@@ -3,7 +3,7 @@ ghost use Rattle.std.specs.Prelude.{◌≡◌};
 ghost use Rattle.ndef_diagnostics.specs.LengthMismatches.{after_first, field_named, length_mismatch, length_mismatch_in, of_data, of_field, of_least};
 ghost use Rattle.ndef_diagnostics.specs.LengthMismatches.{of_lengths, of_stage};
 
-use crate::Expected;
+use crate::{Expected, Whose};
 use ndef_fields::FieldName;
 use ndef_lang::{Kind, Leaf, Lengths, Stage};
 use ndef_value::Profile;
@@ -51,7 +51,7 @@ fn of_stage(stage: Stage, left: u64) -> Expected
         Stage::Utf16 if left % 2 == 1 => Expected::EvenText,
         Stage::AuxiliaryCount if left == 0 => Expected::AuxiliaryCount,
         Stage::References(count) if left < u64::from(count) => {
-            Expected::FewerAuxiliary(u64::from(count), left)
+            Expected::Size(Whose::Auxiliary, u64::from(count), left)
         }
         _ => Expected::Nothing,
     }
@@ -71,7 +71,7 @@ fn of_field(name: FieldName, leaf: Leaf, left: u64) -> Expected
     };
     let size = u64::from(size);
     if left < size {
-        Expected::ShorterField(name, size, left)
+        Expected::Size(Whose::Field(name), size, left)
     } else {
         of_stage(next, left - size)
     }

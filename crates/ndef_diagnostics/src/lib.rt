@@ -13,7 +13,7 @@
 //!   `specs/TextRemarks.antt`: about a text. `record_remark.rt`, `poster_remark.rt`, `handover_remark.rt`,
 //!   `specs/RecordRemarks.antt`: about a record beside the others. `few.rt`: the messages that are searched for them.
 //! - `wording.rt`, `specs/Wordings.antt`: the sentence for each. `sentence.rt`: a short text, made with no memory.
-//! - `laws.rt`, `specs/Truths.antt`: the law that the sentences' statements about lengths are true.
+//! - `laws.rt`, `specs/Truths.antt`: the laws that sentences are true.
 #![tactic(auto)]
 
 mod begun;
@@ -37,11 +37,14 @@ mod wording;
 
 pub use begun::{is_lengths_whole, least_record};
 pub use dump_text::DumpText;
-pub use expected::Expected;
+pub use expected::{Expected, Whose};
 pub use expecting::expected_at;
 pub use few::small_message;
 pub use hint::{Hint, hint_at};
-pub use laws::{length_mismatches_are_true, lengths_are_true, sizes_are_true};
+pub use laws::{
+    ends_are_true, hints_are_one, length_mismatches_are_true, lengths_are_true, records_are_true,
+    sizes_are_true,
+};
 pub use record_remark::{payload_remark, repeated_remark};
 pub use remark::{Remark, field_remark};
 pub use sentence::{ROOM, Sentence};

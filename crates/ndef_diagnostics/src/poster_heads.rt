@@ -1,14 +1,13 @@
 //! The expectation in a head of a smart poster before which no URI has come.
 ghost use Rattle.std.specs.Prelude.{◌≡◌, ◌<◌, ◌^◌};
 ghost use Rattle.ndef_diagnostics.specs.PosterHeads.{before_uri, has_no_payload, is_uncut, least_uri, may_be_uri};
-ghost use Rattle.ndef_diagnostics.specs.PosterHeads.{of_last_uri, of_rest, of_uri, reaches_end};
+ghost use Rattle.ndef_diagnostics.specs.PosterHeads.{of_last_uri, of_rest, of_uri};
 
-use crate::Expected;
 use crate::begun::{
     head_length, id_length, is_length_whole, is_size_known, least_record, octet_at, payload_length,
 };
+use crate::{Expected, Whose};
 use ndef_format::header::{END, is_set, tnf_number};
-use ndef_lang::Kind;
 
 /// Whether PAYLOAD_LENGTH has come, and is 0.
 fn has_no_payload(octets: &[u8]) -> bool
@@ -35,13 +34,6 @@ fn least_uri(octets: &[u8]) -> u64
     front as u64 + payload_length(octets).max(1)
 }
 
-/// Whether a record that begins with these octets, with the longest id, is no shorter than what is left.
-fn reaches_end(left: u64, octets: &[u8]) -> bool
-    ensures { result ≡ reaches_end left octets.now }
-{
-    left <= (head_length(octets) + usize::from(octet_at(octets, 1)) + 255) as u64
-}
-
 /// Whether no octet of PAYLOAD_LENGTH has come, or all have.
 fn is_uncut(octets: &[u8]) -> bool
     ensures { result ≡ is_uncut octets.now }
@@ -53,12 +45,12 @@ fn is_uncut(octets: &[u8]) -> bool
 fn of_last_uri(left: u64, octets: &[u8]) -> Expected
     ensures { result ≡ of_last_uri left octets.now }
 {
-    if has_no_payload(octets) && reaches_end(left, octets) {
-        return Expected::LeastLength(Kind::Uri, 1, 0);
+    if has_no_payload(octets) {
+        return Expected::EmptyUri;
     }
     let least = least_uri(octets);
     if left < least && is_uncut(octets) {
-        Expected::ShorterUri(least, left)
+        Expected::Size(Whose::LastUri, least, left)
     } else {
         Expected::Nothing
     }
@@ -70,7 +62,7 @@ fn of_rest(left: u64, size: u64) -> Expected
 {
     let rest = left.saturating_sub(size);
     if rest < 5 {
-        Expected::UriToFollow(rest)
+        Expected::Size(Whose::NextUri, 5, rest)
     } else {
         Expected::Nothing
     }

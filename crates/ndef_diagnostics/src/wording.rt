@@ -1,19 +1,15 @@
 //! The sentence for the expectation.
 ghost use Rattle.std.specs.Prelude.{◌≡◌, ◌+◌, ◌==◌, ◌≤◌, ◌++◌, if◌then◌else◌, length};
-ghost use Rattle.ndef_diagnostics.specs.Wordings.{auxiliary_text, error_text, field_text, given_text, kind_noun, kind_text};
-ghost use Rattle.ndef_diagnostics.specs.Wordings.{last_text, least_text, left_text, length_text, missing_text, next_text};
-ghost use Rattle.ndef_diagnostics.specs.Wordings.{octets_text, poster_text, record_text, second_text, select_text};
-ghost use Rattle.ndef_diagnostics.specs.Wordings.{after_collision_text, collision_text, last_collision_text};
-ghost use Rattle.ndef_diagnostics.specs.Wordings.{last_uri_text, long_collision_text, shorter_text, uri_to_follow_text};
-ghost use Rattle.ndef_diagnostics.specs.Wordings.{expected_text};
+ghost use Rattle.ndef_diagnostics.specs.Wordings.{collision_text, error_text, expected_text, field_text, given_text};
+ghost use Rattle.ndef_diagnostics.specs.Wordings.{kind_noun, kind_text, least_text, left_text, length_text};
+ghost use Rattle.ndef_diagnostics.specs.Wordings.{missing_text, octets_text, poster_text, second_text, select_text};
+ghost use Rattle.ndef_diagnostics.specs.Wordings.{size_text, whose_text};
+ghost use Rattle.ndef_diagnostics.specs.declared.expected.Whose.TheVariants as whose;
 
-use crate::{Expected, Sentence};
+use crate::{Expected, Sentence, Whose};
 use ndef_fields::FieldName;
 use ndef_format::Reason;
 use ndef_lang::Kind;
-
-/// The beginning of a sentence about the first record of a request.
-const COLLISION_FIRST: &[u8] = b"A request begins with a collision record (`cr`)";
 
 /// The word for one, or for more or none.
 fn word(count: u64, one: &'static [u8], more: &'static [u8]) -> &'static [u8]
@@ -69,9 +65,9 @@ impl Sentence {
 
     /// Appends a number of octets.
     fn push_octets(&mut self, count: u64)
-        requires { length self.old + 40 ≤ 192 }
+        requires { length self.old + 33 ≤ 192 }
         ensures text { self.new ≡ self.old ++ octets_text count }
-        ensures room { length self.new ≤ length self.old + 40 }
+        ensures room { length self.new ≤ length self.old + 33 }
     {
         self.push_number(count);
         self.push(word(count, b" octet", b" octets"));
@@ -88,15 +84,12 @@ impl Sentence {
 
     /// Appends the number of octets left in the payload.
     fn push_left(&mut self, count: u64)
-        requires { length self.old + 72 ≤ 192 }
+        requires { length self.old + 53 ≤ 192 }
         ensures text { self.new ≡ self.old ++ left_text count }
     {
         self.push_number(count);
-        self.push(word(
-            count,
-            b" is left in the payload.",
-            b" are left in the payload.",
-        ));
+        self.push(word(count, b" is left", b" are left"));
+        self.push(b" in the payload.");
     }
 
     /// Appends a kind, as the subject.
@@ -174,68 +167,70 @@ fn of_error(reason: u8, there: u64, given: u64) -> Sentence
     sentence
 }
 
-/// The sentence for a field that is longer than what is left.
-fn of_field(name: FieldName, size: u64, left: u64) -> Sentence
-    ensures { result ≡ shorter_text name size left }
+/// A field of a payload, as the subject of a sentence about its size.
+fn of_field(name: FieldName) -> Sentence
+    ensures text { result ≡ whose_text (whose.Field name) 0 }
+    ensures bound { length result ≤ 90 }
 {
-    let mut sentence = Sentence::new();
-    sentence.push(b"The ");
+    let mut sentence = Sentence::of(b"The ");
     sentence.push(name.text());
     sentence.push(b" has ");
-    sentence.push_octets(size);
-    sentence.push(b"; ");
-    sentence.push_left(left);
     sentence
 }
 
-/// The sentence for auxiliary references that don't fit.
-fn of_auxiliary(count: u64, left: u64) -> Sentence
-    ensures { result ≡ auxiliary_text count left }
+/// Auxiliary references that are to come, as the subject of a sentence about their size.
+fn of_auxiliary(count: u64) -> Sentence
+    ensures text { result ≡ whose_text whose.Auxiliary count }
+    ensures bound { length result ≤ 90 }
 {
     let mut sentence = Sentence::new();
     sentence.push_number(count);
-    sentence.push(word(
-        count,
-        b" auxiliary reference has",
-        b" auxiliary references have",
-    ));
-    sentence.push(b" at least ");
-    sentence.push_octets(count);
-    sentence.push(b"; ");
-    sentence.push_left(left);
+    sentence.push(b" auxiliary reference");
+    sentence.push(word(count, b" has", b"s have"));
+    sentence.push(b" to follow, of at least ");
     sentence
 }
 
-/// The sentence for a record that doesn't fit.
-fn of_record(least: u64, left: u64) -> Sentence
-    ensures { result ≡ record_text least left }
+/// What has a size, as the subject of a sentence about it.
+fn subject_of(whose: Whose, size: u64) -> Sentence
+    ensures text { result ≡ whose_text whose size }
+    ensures bound { length result ≤ 90 }
 {
-    let mut sentence = Sentence::new();
-    sentence.push(b"This record has at least ");
-    sentence.push_octets(least);
-    sentence.push(b"; ");
-    sentence.push_left(left);
-    sentence
+    match whose {
+        Whose::Field(name) => of_field(name),
+        Whose::Auxiliary => of_auxiliary(size),
+        Whose::Record => Sentence::of(b"This record has at least "),
+        Whose::LastRecord => Sentence::of(b"This record is the last (ME) and has "),
+        Whose::NextRecord => {
+            Sentence::of(b"Another record has to follow (ME is clear), of at least ")
+        }
+        Whose::AfterShortest => Sentence::of(
+            b"After this record at its shortest another has to follow (ME is clear), of at least ",
+        ),
+        Whose::LastUri => Sentence::of(
+            b"The last record (ME) of this poster has to be its URI (`U`), of at least ",
+        ),
+        Whose::NextUri => Sentence::of(
+            b"The URI (`U`) of this smart poster has to follow (ME is clear), in a record of at least ",
+        ),
+        Whose::Collision => {
+            Sentence::of(b"A request begins with a collision record (`cr`), here of at least ")
+        }
+        Whose::LastCollision => Sentence::of(
+            b"A request begins with a collision record (`cr`), which as the last (ME) has ",
+        ),
+        Whose::AfterCollision => Sentence::of(
+            b"After its collision record (`cr`) another record has to follow (ME is clear), of at least ",
+        ),
+    }
 }
 
-/// The sentence for a last record that ends too early.
-fn of_last(size: u64, left: u64) -> Sentence
-    ensures { result ≡ last_text size left }
+/// The sentence for what has a size and doesn't fit.
+fn of_size(whose: Whose, size: u64, left: u64) -> Sentence
+    ensures { result ≡ size_text whose size left }
 {
-    let mut sentence = Sentence::new();
-    sentence.push(b"This record is the last (ME) and has ");
+    let mut sentence = subject_of(whose, size);
     sentence.push_octets(size);
-    sentence.push(b"; ");
-    sentence.push_left(left);
-    sentence
-}
-
-/// The sentence for another record that doesn't fit.
-fn of_next(left: u64) -> Sentence
-    ensures { result ≡ next_text left }
-{
-    let mut sentence = Sentence::new();
-    sentence.push(b"Another record has to follow (ME is clear), of at least 3 octets");
     sentence.push(b"; ");
     sentence.push_left(left);
     sentence
@@ -249,30 +244,6 @@ fn of_poster(number: u64) -> Sentence
     sentence.push(b"Record ");
     sentence.push_number(number);
     sentence.push(b" is the last of this smart poster, and none is a URI (`U`).");
-    sentence
-}
-
-/// The sentence for a last record of a poster that has to be its URI and doesn't fit.
-fn of_last_uri(least: u64, left: u64) -> Sentence
-    ensures { result ≡ last_uri_text least left }
-{
-    let mut sentence = Sentence::of(
-        b"The last record (ME) of this poster has to be its URI (`U`), of at least ",
-    );
-    sentence.push_octets(least);
-    sentence.push(b"; ");
-    sentence.push_left(left);
-    sentence
-}
-
-/// The sentence for the URI of a poster, which doesn't fit after a record.
-fn of_uri_to_follow(left: u64) -> Sentence
-    ensures { result ≡ uri_to_follow_text left }
-{
-    let mut sentence = Sentence::of(
-        b"The URI (`U`) of this smart poster has to follow (ME is clear), in a record of at least 5 octets; ",
-    );
-    sentence.push_left(left);
     sentence
 }
 
@@ -291,44 +262,10 @@ fn of_second(number: u64) -> Sentence
 fn of_collision(given: u64) -> Sentence
     ensures { result ≡ collision_text given }
 {
-    let mut sentence = Sentence::of(COLLISION_FIRST);
-    sentence.push(b" of 2 octets; ");
-    sentence.push_given(given);
-    sentence
-}
-
-/// The sentence for a collision record that doesn't fit.
-fn of_long_collision(least: u64, left: u64) -> Sentence
-    ensures { result ≡ long_collision_text least left }
-{
-    let mut sentence = Sentence::of(COLLISION_FIRST);
-    sentence.push(b", here of at least ");
-    sentence.push_octets(least);
-    sentence.push(b"; ");
-    sentence.push_left(left);
-    sentence
-}
-
-/// The sentence for a collision record that is the last and ends too early.
-fn of_last_collision(size: u64, left: u64) -> Sentence
-    ensures { result ≡ last_collision_text size left }
-{
-    let mut sentence = Sentence::of(COLLISION_FIRST);
-    sentence.push(b", which as the last (ME) has ");
-    sentence.push_octets(size);
-    sentence.push(b"; ");
-    sentence.push_left(left);
-    sentence
-}
-
-/// The sentence for another record after the collision record, which doesn't fit.
-fn of_after_collision(left: u64) -> Sentence
-    ensures { result ≡ after_collision_text left }
-{
     let mut sentence = Sentence::of(
-        b"After its collision record (`cr`) another record has to follow (ME is clear), of at least 3 octets; ",
+        b"A request begins with a collision record (`cr`) of 2 octets; ",
     );
-    sentence.push_left(left);
+    sentence.push_given(given);
     sentence
 }
 
@@ -352,7 +289,6 @@ impl Expected {
             Expected::LeastLength(kind, least, given) => of_least(kind, least, given),
             Expected::SelectLength(given) => of_select(given),
             Expected::ErrorLength(error, there, given) => of_error(error, there, given),
-            Expected::ShorterField(name, size, left) => of_field(name, size, left),
             Expected::EvenText => Sentence::of(b"The text in UTF-16 has an odd number of octets."),
             Expected::WholeCharacter => {
                 Sentence::of(b"The payload ends within a character of the text.")
@@ -360,21 +296,16 @@ impl Expected {
             Expected::AuxiliaryCount => Sentence::of(
                 b"The alternative carrier ends before its number of auxiliary references.",
             ),
-            Expected::FewerAuxiliary(count, left) => of_auxiliary(count, left),
-            Expected::ShorterRecord(least, left) => of_record(least, left),
-            Expected::LongerLast(size, left) => of_last(size, left),
-            Expected::RoomForNext(left) => of_next(left),
+            Expected::Size(whose, size, left) => of_size(whose, size, left),
             Expected::UriInPoster(number) => of_poster(number),
-            Expected::ShorterUri(least, left) => of_last_uri(least, left),
-            Expected::UriToFollow(left) => of_uri_to_follow(left),
+            Expected::EmptyUri => Sentence::of(
+                b"The last record (ME) of this poster has to be its URI (`U`), whose payload is never empty.",
+            ),
             Expected::OneUri(number) => of_second(number),
             Expected::CollisionFirst => Sentence::of(
                 b"This request must begin with a collision record (`cr`); its first record is another.",
             ),
             Expected::CollisionLength(given) => of_collision(given),
-            Expected::ShorterCollision(least, left) => of_long_collision(least, left),
-            Expected::LastCollision(size, left) => of_last_collision(size, left),
-            Expected::AfterCollision(left) => of_after_collision(left),
         }
     }
 }

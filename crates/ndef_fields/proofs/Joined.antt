@@ -7,8 +7,7 @@ use Rattle.ndef_format.specs.declared.kind.Kind.{Kind}
 use Rattle.ndef_fields.specs.declared.field.Field.{Field}
 use Rattle.ndef_fields.specs.FieldLaws.{AreGapless, bytes_of_field, joined_bytes}
 use Rattle.ndef_fields.specs.Reports.{AreFields, AreFieldsBefore, ArePayloadFields}
-use Rattle.ndef_fields.proofs.FrontLaws.{front_fields_follow, payload_fields_follow}
-use Rattle.ndef_fields.proofs.Slices.{fields_follow}
+use Rattle.ndef_fields.proofs.FrontLaws.{fields_follow, front_fields_follow, payload_fields_follow}
 
 -- the bytes before a field, and its own
 field_on : (bytes : List ℕ) (at : ℕ) (f : Field) → f.at ≡ at → take at bytes ++ bytes_of_field bytes f ≡ take (at + f.length) bytes

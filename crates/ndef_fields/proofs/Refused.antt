@@ -2,8 +2,7 @@
 use Rattle.std.proofs.Common.{◌≡◌, ℕ, suc, ◌+◌, ◌<◌, ◌∙◌, ap, arith, List, [], ◌∷◌, ◌++◌, length, take}
 use Rattle.std.proofs.Math.Seq.{take-suc}
 use Rattle.std.specs.Prelude.{slice_index}
-use Rattle.ndef_fields.specs.Befores.{StandsIn}
-use Rattle.ndef_fields.specs.Lasts.{RefusedInFields}
+use Rattle.ndef_fields.specs.Lasts.{RefusedInFields, StandsIn}
 
 -- the bytes up to a place and the byte there
 one_more : (bytes : List ℕ) (place : ℕ) → place < length bytes → take (place + 1) bytes ≡ take place bytes ++ slice_index bytes place ∷ []

@@ -1,5 +1,5 @@
 -- The fields of a front of a message, if the next octet is in a field.
-use Rattle.std.proofs.Common.{◌≡◌, ℕ, ◌+◌, ◌<◌, refl, sym, ◌∙◌, ap, ap₂, arith, List, [], ◌∷◌, ◌++◌, length, length-append, take, drop, take_at, drop_at}
+use Rattle.std.proofs.Common.{◌≡◌, ℕ, ◌+◌, ◌<◌, ◌≤◌, refl, sym, ◌∙◌, ap, ap₂, subst, arith, List, [], ◌∷◌, ◌++◌, length, take, drop, take_at, drop_at}
 use Rattle.std.specs.Prelude.{slice_index, unwrap_or}
 use Rattle.std.proofs.lemmas.List.{append-nil, drop_all, drop-drop, take_all}
 use Rattle.std.proofs.Math.Seq.{drop-nil, take-nil}
@@ -7,33 +7,24 @@ use Rattle.ndef_format.specs.Records.{HeadFields, octets}
 use Rattle.ndef_format.specs.Messages.{all_pieces}
 use Rattle.ndef_format.specs.declared.spot.Spot.{Spot}
 use Rattle.ndef_format.specs.Positions.{Field, AtEnd, CanBeSpelled, InHead, InId, InPayload, InType, IsOpen, IsProper, octets_so_far, spot_after}
-use Rattle.ndef_piece.specs.Header.{size}
-use Rattle.ndef_piece.specs.HeaderLaws.{header, octets_size}
-use Rattle.ndef_piece.specs.Heads.{HeadsAreUnambiguous}
+use Rattle.ndef_piece.specs.Come.{body_given, id_given, lengths_width}
+use Rattle.ndef_piece.specs.ComeLaws.{Come, come, head_come}
 use Rattle.ndef_fields.specs.declared.name.FieldName.TheVariants as names
-use Rattle.ndef_fields.specs.Befores.{body_given}
 use Rattle.ndef_fields.specs.Fronts.{ArePayloadFront, content_come, front_parts, kind_begun}
-use Rattle.ndef_fields.specs.Parts.{Part, joined, reported}
-use Rattle.ndef_fields.specs.Refusals.{id_given, lengths_width}
+use Rattle.ndef_fields.specs.Parts.{Part, reported}
 use Rattle.ndef_fields.specs.SoFar.{FrontsAreSoFar, head_parts, parts_so_far}
-use Rattle.ndef_fields.proofs.FrontLaws.{payload_front_joined, same_pieces, some_payload_front}
-use Rattle.ndef_fields.proofs.Fronts.{Come, come, head_come}
-use Rattle.ndef_fields.proofs.Proper.{not_whole}
-use Rattle.ndef_fields.proofs.Slices.{AreSome}
-
--- parts with no octets are none
-no_part : (parts : List Part) → AreSome parts → joined parts ≡ [] → parts ≡ []
-no_part [] h e = refl
-no_part (part ∷ parts) h e = absurd (let n = ap length e in let m = length-append part.octets (joined parts) in let some = h.0 in omega (arith, n, m, some))
+use Rattle.ndef_fields.proofs.Filled.{Anywhere, Fill, nothing}
+use Rattle.ndef_fields.proofs.FrontLaws.{payload_fill, same_pieces}
+use Rattle.ndef_fields.proofs.Proper.{not_whole, short_head}
 
 -- where no octet of a payload has come it has no parts
 pub no_payload : (s : List ℕ) (payload : List Part) → ArePayloadFront (kind_begun s) (content_come s) payload → content_come s ≡ [] → payload ≡ []
 no_payload s payload h e =
-    no_part payload (some_payload_front (kind_begun s) (content_come s) payload h) (payload_front_joined (kind_begun s) (content_come s) payload h ∙ e)
+    nothing Anywhere payload (subst (λ x. Fill Anywhere x payload) e (payload_fill (kind_begun s) (content_come s) payload h))
 
 -- ---- in TYPE, and in ID
 
-in_type : (f : HeadFields) (kind : List ℕ) → CanBeSpelled f → length kind < f.kind_length → Come f kind [] [] (octets f ++ kind)
+pub in_type : (f : HeadFields) (kind : List ℕ) → CanBeSpelled f → length kind ≤ f.kind_length → Come f kind [] [] (octets f ++ kind)
 in_type f kind c l =
     let s = octets f ++ kind in
     let h = slice_index s 0 in
@@ -51,7 +42,7 @@ in_type f kind c l =
           ∙ drop-nil (id_given h tail);
     }
 
-in_id : (f : HeadFields) (kind id : List ℕ) → CanBeSpelled f → length kind ≡ f.kind_length → length id < unwrap_or f.id_length 0
+pub in_id : (f : HeadFields) (kind id : List ℕ) → CanBeSpelled f → length kind ≡ f.kind_length → length id ≤ unwrap_or f.id_length 0
     → Come f kind id [] (octets f ++ (kind ++ id))
 in_id f kind id c lk li =
     let s = octets f ++ (kind ++ id) in
@@ -85,12 +76,7 @@ in_head spot [] p = drop-nil (slice_index [] 1 + id_given (slice_index [] 0) [])
 in_head spot (h ∷ []) p =
     let k = slice_index (h ∷ []) 1 + id_given h [] in
     ap (drop k) (drop-nil (lengths_width h)) ∙ drop-nil k
-in_head spot (h ∷ k ∷ s) p =
-    let n = octets_size p.fields p.stands.spelled.tnf in
-    let e : header p.fields ≡ h = let w = p.spelled in cc in
-    let z = ap size e in
-    let m = ap length p.spelled ∙ length-append (h ∷ k ∷ s) (p.next ∷ p.rest) in
-    no_content (h ∷ k ∷ s) (omega (arith, n, z, m))
+in_head spot (h ∷ k ∷ s) p = let l = short_head spot h (k ∷ s) p in no_content (h ∷ k ∷ s) (omega (arith, l))
 
 -- ---- any field
 
@@ -104,12 +90,12 @@ so_far : (spot : Spot) (field : Field) (s : List ℕ) (payload : List Part) → 
 so_far spot (InHead front) s payload p e h =
     ap₂ (front_parts 0) e (no_payload s payload h (ap content_come e ∙ in_head spot front p))
 so_far spot (InType f kind) s payload p e h =
-    let c = in_type f kind p.0.stands.spelled p.1 in
+    let c = in_type f kind p.0.stands.spelled (let l = p.1 in omega (arith, l)) in
     parts_come f kind [] [] s kind payload e c
     ∙ ap (λ x. head_parts f (reported 0 names.Kind kind ++ x)) (no_payload s payload h (ap content_come e ∙ c.content_is))
     ∙ ap (head_parts f) (append-nil (reported 0 names.Kind kind))
 so_far spot (InId f kind id) s payload p e h =
-    let c = in_id f kind id p.0.stands.spelled p.1 p.2 in
+    let c = in_id f kind id p.0.stands.spelled p.1 (let l = p.2 in omega (arith, l)) in
     parts_come f kind id [] s (kind ++ id) payload e c
     ∙ ap (λ x. head_parts f (reported 0 names.Kind kind ++ (reported 0 names.Id id ++ x))) (no_payload s payload h (ap content_come e ∙ c.content_is))
     ∙ ap (λ x. head_parts f (reported 0 names.Kind kind ++ x)) (append-nil (reported 0 names.Id id))
@@ -118,12 +104,12 @@ so_far spot (InPayload f kind id content) s payload p e h =
 so_far spot AtEnd s payload p e h =
     ap₂ (front_parts 0) e (no_payload s payload h (ap content_come e ∙ drop-nil (slice_index [] 1 + id_given (slice_index [] 0) [])))
 
-pub fronts_are_so_far : HeadsAreUnambiguous → FrontsAreSoFar
-fronts_are_so_far apart limits bytes parts f runs begun field a =
+pub fronts_are_so_far : FrontsAreSoFar
+fronts_are_so_far limits bytes parts f runs begun field a =
     let w = f.whole in
     let spot = spot_after limits runs begun in
     let same = same_pieces w.pieces (all_pieces runs ++ begun) w.front a.front f.rest (octets_so_far field) w.spelled a.spelled (sym w.split ∙ a.split)
-    w.ended (not_whole apart spot field a.proper) in
+    w.ended (not_whole spot field a.proper) in
     record {
       pieces_are = same.pieces;
       rest_is = same.rest;

@@ -1,17 +1,16 @@
 -- The whole pieces at the front of some bytes.
-use Rattle.std.proofs.Common.{◌≡◌, ◌≤◌, ℕ, ◌+◌, ◌-◌, Bool, false, refl, sym, ◌∙◌, ap, subst, arith, List, [], ◌∷◌, ◌++◌, length, take, take_at, append_assoc, length-append}
+use Rattle.std.proofs.Common.{◌≡◌, ◌≤◌, ℕ, ◌+◌, Bool, false, refl, sym, ◌∙◌, ap, subst, arith, List, [], ◌∷◌, ◌++◌, length, append_assoc, length-append}
 use Rattle.std.specs.List.{AllByRecursion}
 use Rattle.std.proofs.lemmas.List.{append-nil}
 use Rattle.ndef_format.specs.Records.{Piece, SpellsPiece}
-use Rattle.ndef_format.specs.Messages.{SpellsPieces}
+use Rattle.ndef_format.specs.Messages.{SpellsPieces, all_pieces}
 use Rattle.ndef_format.specs.Limits.{LimitValues}
 use Rattle.ndef_piece.specs.Whole.{BeginWithPiece, IsSplit}
 use Rattle.ndef_format.specs.Accepted.{IsViable}
 use Rattle.ndef_message.specs.Machine.SeenLaws.{same_split}
 use Rattle.ndef_format.specs.Payloads.{IsTypedPayload}
-use Rattle.ndef_fields.specs.Cursors.{AreOuter, HasPieceContents}
 use Rattle.ndef_fields.specs.Refusals.{AreWholeBefore, ends_in_chunk}
-use Rattle.ndef_fields.proofs.Members.{deep_outer}
+use Rattle.ndef_fields.proofs.Members.{HasPieceContents, deep_holds}
 
 -- whole pieces are before the rest
 abbrev pub KeepsWhole : List ℕ → List ℕ → Type 0
@@ -32,33 +31,6 @@ whole_more bytes rest next w short (ps, x, s, e) i =
 
 pub whole_last : (bytes rest : List ℕ) → KeepsWhole bytes rest → ¬ BeginWithPiece rest → AreWholeBefore bytes rest
 whole_last bytes rest (ps, x, s, e) h = record { pieces = ps; front = x; spelled = s; split = e; ended = h }
-
--- the first pieces of a message hold what the message's pieces hold
-front_holds : (ps qs : List Piece) (x more : List ℕ) → SpellsPieces ps x → SpellsPieces qs (x ++ more) → AllByRecursion HasPieceContents qs → AllByRecursion HasPieceContents ps
-front_holds [] qs x more s t h = tt
-front_holds (p ∷ ps) [] x more (short, front, rest, e, sp, s) t h =
-    absurd (let n = ap length t in let k = ap length e in let a = length-append x more in let b = length-append front rest in let f = ap length sp.spelled in omega (arith, n, k, a, b, f))
-front_holds (p ∷ ps) (q ∷ qs) x more (short, front, rest, e, sp, s) (form, first, later, f, tp, t) h =
-    let a : IsSplit p short (rest ++ more) (x ++ more) = record { front = front; spells = sp; joined = ap (λ y. y ++ more) e ∙ append_assoc front rest more } in
-    let b : IsSplit q form later (x ++ more) = record { front = first; spells = tp; joined = f } in
-    let same = same_split p q short form (rest ++ more) later (x ++ more) a b in
-    (subst HasPieceContents (sym same.0) h.0, front_holds ps qs rest more s (subst (SpellsPieces qs) (sym same.1) t) h.1)
-
--- the whole pieces of a front of a message
-pub whole_holds : (limits : LimitValues) (bytes rest : List ℕ) → IsViable IsTypedPayload limits bytes → (w : AreWholeBefore bytes rest)
-    → AllByRecursion HasPieceContents w.pieces
-whole_holds limits bytes rest (more, v) w =
-    let a = deep_outer limits v.0 (bytes ++ more) v.1 in
-    let e : bytes ++ more ≡ w.front ++ (rest ++ more) = ap (λ x. x ++ more) w.split ∙ append_assoc w.front rest more in
-    front_holds w.pieces a.pieces w.front (rest ++ more) w.spelled (subst (SpellsPieces a.pieces) e a.spelled) a.contents
-
-pub whole_outer : (limits : LimitValues) (bytes rest : List ℕ) → IsViable IsTypedPayload limits bytes → (w : AreWholeBefore bytes rest) → AreOuter w.front
-whole_outer limits bytes rest v w = record { pieces = w.pieces; spelled = w.spelled; contents = whole_holds limits bytes rest v w }
-
-pub front_is : (bytes rest : List ℕ) (w : AreWholeBefore bytes rest) → take (length bytes - length rest) bytes ≡ w.front
-front_is bytes rest w =
-    let n = ap length w.split ∙ length-append w.front rest in
-    ap (take (length bytes - length rest)) w.split ∙ take_at w.front rest _ (omega (arith, n))
 
 -- a piece has an octet
 pub split_shorter : (p : Piece) (short : Bool) (rest bytes : List ℕ) → IsSplit p short rest bytes → length rest + 1 ≤ length bytes

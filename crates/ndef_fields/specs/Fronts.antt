@@ -2,7 +2,7 @@
 use Rattle.std.specs.Prelude.{◌≡◌, ℕ, Option, Some, None, List, ◌++◌, take, drop, slice_index}
 use Rattle.ndef_format.specs.Records.{tnf_of}
 use Rattle.ndef_format.specs.Kinds.{kind_of, outer_kind}
-use Rattle.ndef_format.specs.HeadReasons.{is_set, tnf_number, width}
+use Rattle.ndef_format.specs.HeadReasons.{is_set, tnf_number}
 use Rattle.ndef_format.specs.Nested.{kind_in, table_in}
 use Rattle.ndef_format.specs.declared.kind.Kind.{Kind}
 use Rattle.ndef_format.specs.declared.table.Table.{Table}
@@ -10,37 +10,14 @@ use Rattle.ndef_format.specs.declared.tnf.Tnf.{Tnf}
 use Rattle.ndef_fields.specs.declared.front.HeadOctets.{HeadOctets}
 use Rattle.ndef_fields.specs.declared.front.PieceFront.{PieceFront}
 use Rattle.ndef_fields.specs.declared.name.FieldName.TheVariants as names
-use Rattle.ndef_fields.specs.Befores.{body_given, content_given}
+pub use Rattle.ndef_piece.specs.Come.{content_come, id_come, id_length_come, kind_come, payload_length_come}
 use Rattle.ndef_fields.specs.Lasts.{kind_there}
 use Rattle.ndef_fields.specs.Messages.{AreParts, IsInnerOwn, IsOuterOwn, version_length}
 use Rattle.ndef_fields.specs.Parts.{Part, reported}
 use Rattle.ndef_fields.specs.Payloads.{leaf_parts}
-use Rattle.ndef_fields.specs.Refusals.{AreWholeBefore, id_given, id_length_width}
+use Rattle.ndef_fields.specs.Refusals.{AreWholeBefore}
 
 -- ---- a front of a piece
-
--- NDEF 1.0, PAYLOAD_LENGTH: those of its octets that have come, of a piece that begins with these
--- octets
-abbrev pub payload_length_come : List ℕ → List ℕ
-payload_length_come s = take (width (slice_index s 0)) (drop 2 s)
-
--- NDEF 1.0, ID_LENGTH: its octet, if it has come
-abbrev pub id_length_come : List ℕ → List ℕ
-id_length_come s =
-    take (id_length_width (slice_index s 0)) (drop (width (slice_index s 0)) (drop 2 s))
-
--- NDEF 1.0, TYPE: its octets that have come, after the lengths
-abbrev pub kind_come : List ℕ → List ℕ
-kind_come s = take (slice_index s 1) (body_given (slice_index s 0) (drop 2 s))
-
--- NDEF 1.0, ID: its octets that have come, after TYPE
-abbrev pub id_come : List ℕ → List ℕ
-id_come s =
-    take (id_given (slice_index s 0) (drop 2 s)) (drop (slice_index s 1) (body_given (slice_index s 0) (drop 2 s)))
-
--- NDEF 1.0, PAYLOAD: its octets that have come, after ID
-abbrev pub content_come : List ℕ → List ℕ
-content_come s = content_given (slice_index s 0) (slice_index s 1) (drop 2 s)
 
 -- NDEF 1.0, TNF: the type name format in the header octet
 abbrev pub tnf_come : List ℕ → Tnf

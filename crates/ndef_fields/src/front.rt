@@ -1,16 +1,10 @@
 //! The fields of a piece of which all or a front has come.
-ghost use Rattle.std.specs.Prelude.{◌≡◌, length, slice_index};
-ghost use Rattle.ndef_format.specs.Kinds.{kind_of};
-ghost use Rattle.ndef_fields.specs.Fronts.{IsPieceFront, kind_begun, kind_come, tnf_come};
+ghost use Rattle.std.specs.Prelude.{◌≡◌, drop, slice_index, take};
+ghost use Rattle.ndef_piece.specs.Come.{id_given, id_length_width};
+ghost use Rattle.ndef_fields.specs.Fronts.{IsPieceFront};
 
-use crate::before::{following, front_of};
-use crate::heads::id_length_in;
-use crate::left::id_width;
 use crate::stage::first;
-use ndef_format::header::width;
-use ndef_lang::Kind;
-use ndef_piece::header_tnf;
-use ndef_value::Tnf;
+use ndef_format::header::{ID_THERE, is_set, width};
 
 /// The octets of the fields of a piece before its payload, as far as they have come (NDEF 1.0, record layout).
 #[derive(Clone, Copy, Debug)]
@@ -38,6 +32,38 @@ pub struct PieceFront<'a> {
     pub head: HeadOctets<'a>,
     /// The octets of the payload, and those after it.
     pub content: &'a [u8],
+}
+
+/// Returns the octets after the first `count`, none if there are fewer.
+fn following(octets: &[u8], count: usize) -> &[u8]
+    ensures { result.now ≡ drop count octets.now }
+{
+    octets.split_at(count.min(octets.len())).1
+}
+
+/// The first `count` octets, all where there are fewer.
+fn front_of(octets: &[u8], count: usize) -> &[u8]
+    ensures { result.now ≡ take count octets.now }
+{
+    octets.split_at(count.min(octets.len())).0
+}
+
+/// The number of octets of ID_LENGTH: 1 with IL, else 0.
+fn id_width(header: u8) -> usize
+    ensures { result ≡ id_length_width header }
+{
+    usize::from(is_set(ID_THERE, header))
+}
+
+/// ID_LENGTH after PAYLOAD_LENGTH; 0 where there is none.
+fn id_length_in(header: u8, tail: &[u8]) -> u8
+    ensures { result ≡ id_given header tail.now }
+{
+    if id_width(header) == 0 {
+        return 0;
+    }
+    let at = width(header);
+    if at < tail.len() { tail[at] } else { 0 }
 }
 
 /// The fields of the piece with which these octets begin, as far as they have come (NDEF 1.0, record layout).

@@ -1,24 +1,9 @@
-//! The head of a piece of which only a front has come.
+//! The whole pieces at the front of some bytes.
 ghost use Rattle.std.specs.Prelude.{◌≡◌, ◌+◌, ◌≤◌, length};
-ghost use Rattle.ndef_format.specs.HeadReasons.{width};
-ghost use Rattle.ndef_fields.specs.Refusals.{AreWholeBefore, ends_in_chunk, id_given, IsAfterPieces, IsByLengths};
+ghost use Rattle.ndef_fields.specs.Refusals.{AreWholeBefore, ends_in_chunk};
 
-use crate::FieldName;
-use crate::left::id_width;
-use ndef_format::header::{CHUNK, is_set, width};
+use ndef_format::header::{CHUNK, is_set};
 use ndef_piece::whole_piece;
-
-/// The bytes after the whole pieces at the front.
-pub(crate) fn after_pieces(bytes: &[u8]) -> &[u8]
-    ensures following { IsAfterPieces bytes.now result.now }
-    ensures whole { AreWholeBefore bytes.now result.now }
-{
-    let mut rest = bytes;
-    while let Some(piece) = whole_piece(rest) {
-        rest = piece.rest;
-    }
-    rest
-}
 
 /// The whole pieces at the front of some bytes.
 #[derive(Clone, Copy, Debug)]
@@ -51,37 +36,4 @@ pub fn whole_pieces(bytes: &[u8]) -> WholePieces<'_>
         ends_in_chunk,
         rest,
     }
-}
-
-/// ID_LENGTH after PAYLOAD_LENGTH; 0 where there is none.
-pub(crate) fn id_length_in(header: u8, tail: &[u8]) -> u8
-    ensures { result ≡ id_given header tail.now }
-{
-    if id_width(header) == 0 {
-        return 0;
-    }
-    let at = width(header);
-    if at < tail.len() { tail[at] } else { 0 }
-}
-
-/// The field of the octet after a header octet, TYPE_LENGTH and these octets of a piece.
-pub(crate) fn name_by(header: u8, kind_length: u8, tail: &[u8]) -> FieldName
-    ensures { IsByLengths header kind_length tail.now result }
-{
-    let length = tail.len();
-    let lengths = width(header);
-    if length < lengths {
-        return FieldName::PayloadLength;
-    }
-    let head = lengths + id_width(header);
-    if length < head {
-        return FieldName::IdLength;
-    }
-    if length < head + usize::from(kind_length) {
-        return FieldName::Kind;
-    }
-    if length < head + usize::from(kind_length) + usize::from(id_length_in(header, tail)) {
-        return FieldName::Id;
-    }
-    FieldName::Payload
 }

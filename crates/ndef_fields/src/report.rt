@@ -6,6 +6,7 @@ use crate::Fields;
 use ndef_lang::Kind;
 use ndef_message::{Items, view};
 use ndef_nest::Typed;
+use ndef_piece::pieces_begin_by_size;
 use ndef_value::{Limits, Refusal};
 
 /// The fields of a message, its records, and its number of bytes.
@@ -54,7 +55,9 @@ pub fn fields_before(bytes: &[u8]) -> Fields<'_>
     requires { IsMessageFront bytes.now }
     ensures { AreFieldsBefore bytes.now result }
 {
-    Fields::of_front(bytes)
+    // For the proof alone.
+    pieces_begin_by_size();
+    Fields::new(bytes)
 }
 
 /// The fields of the payload of a record of this kind, joined where it comes in several pieces (RTD Text 1.0, RTD
@@ -66,5 +69,7 @@ pub fn fields_before(bytes: &[u8]) -> Fields<'_>
 pub fn payload_fields(kind: Kind, payload: &[u8]) -> Fields<'_>
     ensures { ArePayloadFields kind payload.now result }
 {
+    // For the proof alone.
+    pieces_begin_by_size();
     Fields::of_payload(kind, payload)
 }

@@ -1,4 +1,5 @@
 pub mod AsciiLemmas
+pub mod CodeLemmas
 pub mod Following
 pub mod KindLemmas
 pub mod Longest

@@ -1,17 +1,12 @@
 -- Payloads from their parts, as a slice's pattern cuts them.
-use Rattle.std.proofs.Common.{◌≡◌, ℕ, zero, suc, ◌+◌, ◌*◌, ◌/◌, ◌%◌, ◌<◌, ◌≤◌, ◌⊎◌, inl, inr, Bool, true, false, if◌then◌else◌, List, [], ◌∷◌, length, get_or, take, drop, refl, sym, ◌∙◌, ap, subst, arith}
+use Rattle.std.proofs.Common.{◌≡◌, ℕ, zero, suc, ◌+◌, ◌-◌, ◌*◌, ◌/◌, ◌%◌, ◌<◌, ◌≤◌, ◌⊎◌, inl, inr, Bool, true, false, if◌then◌else◌, List, [], ◌∷◌, length, get_or, take, drop, refl, sym, ◌∙◌, ap, subst, arith}
 use Rattle.std.proofs.lemmas.Bool.{lt-leb}
 use Rattle.std.specs.List.{AllByRecursion}
 use Rattle.ndef_format.specs.Records.{AreOctets}
-use Rattle.ndef_value.specs.SliceLaws.{rest_from, octet_at, octets_after, cut_one, cut_two}
-use Rattle.ndef_format.specs.Octets.{Octets}
+use Rattle.ndef_value.specs.SliceLaws.{after_drop, rest_from, octet_at, octets_after, cut_one, cut_two}
+use Rattle.ndef_format.specs.Handovers.{AreReferences}
+use Rattle.ndef_format.specs.Octets.{Counted, IsOctet, Octets}
 use Rattle.ndef_format.specs.Texts.{IsCodeOctet, IsTextIn, IsText, is_wide, IsSpelled, spelled}
-use Rattle.ndef_lang.specs.declared.leaf.Class.{Class}
-use Rattle.ndef_lang.specs.declared.leaf.Stage.{Stage}
-use Rattle.ndef_lang.specs.declared.leaf.Leaf.{Leaf}
-use Rattle.ndef_lang.specs.declared.leaf.Leaf.TheVariants.{Field}
-use Rattle.ndef_lang.specs.Language.{Continues}
-use Rattle.ndef_lang.specs.Machine.Leaf.{CompletesLeaf, CompletesStage, InClass}
 use Rattle.ndef_lang.specs.Machine.Utf16Laws.{units_alone, units_paired, no_units}
 use Rattle.ndef_lang.proofs.AsciiLemmas.{ascii_is_utf8, ascii_parts}
 
@@ -40,6 +35,31 @@ ascii_text_from s k octets some plain is long narrow h =
     let p = ascii_parts k (rest_from 1 s) h in
     let wide : is_wide (get_or s 0 0) ≡ false = lt-leb 128 (get_or s 0 0) narrow in
     text_from s k octets some plain is long p.0 (subst (λ w. IsTextIn w (drop k (rest_from 1 s))) (sym wide) (ascii_is_utf8 _ p.1))
+
+-- ---- counted fields
+
+octets_take : (n : ℕ) (s : List ℕ) → AreOctets s → AllByRecursion IsOctet (take n s)
+octets_take zero s h = tt
+octets_take (suc n) [] h = tt
+octets_take (suc n) (x ∷ s) h = (h.0, octets_take n s h.1)
+
+-- an octet, and what is in the set
+pub octet_from : (set : List ℕ → Type 0) (s : List ℕ) → AreOctets s → 1 ≤ length s → set (rest_from 1 s) → Octets IsOctet 1 set s
+octet_from set s octets some t = subst (Octets IsOctet 1 set) (cut_one s some) (octet_at s 0 octets, t)
+
+-- a length octet, that many octets, and what is in the set
+pub counted_from : (set : List ℕ → Type 0) (s : List ℕ) (k : ℕ) → AreOctets s → 1 ≤ length s → k ≡ get_or s 0 0 → k ≤ length (rest_from 1 s) → set (rest_from k (rest_from 1 s)) → Counted set s
+counted_from set s k octets some is long t =
+    let rest = rest_from 1 s in
+    let field = field_from IsOctet k set rest long (octets_take k rest (octets_after 1 s octets)) (subst set (after_drop k rest) t) in
+    subst (Counted set) (cut_one s some) (octet_at s 0 octets, subst (λ n. Octets IsOctet n set rest) is field)
+
+-- a reference after its length, and the other references
+pub references_from : (left : ℕ) (s : List ℕ) (k : ℕ) → AreOctets s → 0 < left → 1 ≤ length s → k ≡ get_or s 0 0 → k ≤ length (rest_from 1 s) → AreReferences (left - 1) (rest_from k (rest_from 1 s)) → AreReferences left s
+references_from zero s k octets more some is long t = absurd (omega arith)
+references_from (suc n) s k octets more some is long t =
+    let less : suc n - 1 ≡ n = omega arith in
+    counted_from (AreReferences n) s k octets some is long (subst (λ m. AreReferences m (rest_from k (rest_from 1 s))) less t)
 
 -- ---- units of UTF-16
 
@@ -78,10 +98,6 @@ unit_pair little a b c d s p q x y h k l m r =
       ),
     )
 
-pub no_spelled : (little : Bool) (s : List ℕ) → length s ≡ 0 → IsSpelled little s
-no_spelled little [] e = ([], (no_units, refl))
-no_spelled little (x ∷ s) e = absurd (omega arith)
-
 -- two octets and the rest, by the most significant one
 pub alone_at : (little : Bool) (most : ℕ) (s : List ℕ) → AreOctets s → 2 ≤ length s → most ≡ most_of little (get_or s 0 0) (get_or s 1 0) → (most < 0xd8) ⊎ (0xe0 ≤ most) → IsSpelled little (rest_from 2 s) → IsSpelled little s
 alone_at little most s octets two is h r =
@@ -97,20 +113,3 @@ pair_at little most second s octets two four is is2 h k l m r =
     let tail : IsSpelled little (get_or s 0 0 ∷ get_or s 1 0 ∷ get_or rest 0 0 ∷ get_or rest 1 0 ∷ rest_from 2 rest) =
     unit_pair little _ _ _ _ (rest_from 2 rest) (octet_at s 0 octets) (octet_at s 1 octets) (octet_at rest 0 octets_rest) (octet_at rest 1 octets_rest) (omega arith) (omega arith) (omega arith) (omega arith) r in
     subst (IsSpelled little) (cut_two s two) (subst (λ t. IsSpelled little (get_or s 0 0 ∷ get_or s 1 0 ∷ t)) (cut_two rest four) tail)
-
--- ---- a payload field by field
-
--- a field and what follows it
-pub field_taken : (state : Leaf) (left k : ℕ) (class : Class) (next : Stage) (s front back : List ℕ) → state ≡ Field left class next → k ≡ left → k ≤ length s → front ≡ take k s → back ≡ drop k s → AllByRecursion (InClass class) front
-    → CompletesStage next back → CompletesLeaf state s
-field_taken state left k class next s front back is same long e f h t =
-    subst (λ x. CompletesLeaf x s) (sym is) (subst (λ n. Octets (InClass class) n (CompletesStage next) s) same
-    (field_from (InClass class) k (CompletesStage next) s long (subst (AllByRecursion (InClass class)) e h) (subst (CompletesStage next) f t)))
-
--- the octet after it
-pub stage_taken : (next : Stage) (state : Leaf) (s : List ℕ) → 1 ≤ length s → Continues (CompletesStage next) (CompletesLeaf state) (get_or s 0 0 ∷ []) → CompletesLeaf state (rest_from 1 s) → CompletesStage next s
-stage_taken next state s some f h = subst (CompletesStage next) (cut_one s some) ((f (rest_from 1 s)).0 h)
-
-pub nothing_left : (s : List ℕ) → length s ≡ 0 → s ≡ []
-nothing_left [] e = refl
-nothing_left (x ∷ s) e = absurd (omega arith)

@@ -2,6 +2,7 @@ pub mod Accepting
 pub mod AllFed
 pub mod Answered
 pub mod Befores
+pub mod BegunRecords
 pub mod Bodies
 pub mod Calls
 pub mod CheckingOn
@@ -42,6 +43,7 @@ pub mod ReadingOn
 pub mod RecordBegins
 pub mod RecordSteps
 pub mod Rests
+pub mod Resumed
 pub mod SeenMessages
 pub mod SeenRuns
 pub mod Sends

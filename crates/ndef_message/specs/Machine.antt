@@ -1,6 +1,7 @@
 -- Definitions for contracts and proofs about the states of the machines. The definitions beside this folder
 -- don't name them.
 pub mod Accepted
+pub mod Begun
 pub mod Checkers
 pub mod DecoderState
 pub mod Decoders

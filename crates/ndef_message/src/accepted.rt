@@ -1,17 +1,19 @@
 //! Whole records at the front of a slice, or pieces of an open run, that a fast test finds right. Others may be right
 //! too.
-ghost use Rattle.std.specs.Prelude.{◌≡◌, ◌<◌, ◌≤◌, length, take, true, false, IfSome, IsTrue};
+ghost use Rattle.std.specs.Prelude.{◌≡◌, ◌<◌, ◌≤◌, length, take, true, false, IfErr, IfOk, IfSome, IsTrue};
 ghost use Rattle.ndef_format.specs.HeadReasons.{is_set};
 ghost use Rattle.ndef_format.specs.Positions as pieces;
 ghost use Rattle.ndef_piece.specs.Whole.{IsSplit, shown};
 ghost use Rattle.ndef_format.specs.Accepted.{IsMember};
 ghost use Rattle.ndef_message.specs.Checkings.{HasRecords};
 ghost use Rattle.ndef_message.specs.Machine.Accepted.{AreChunks, AreTakenRecords, BeginsWith, IsTakenRecord, IsRunEnd, record_of};
-ghost use Rattle.ndef_message.specs.Machine.State.{spot_of};
+ghost use Rattle.ndef_message.specs.Machine.State.{numbers, spot_of};
+ghost use Rattle.ndef_piece.specs.Walk.{start};
 
+use crate::Checked;
 use crate::format::format_laws;
 use crate::phase::Place;
-use ndef_format::header::{END, is_set};
+use ndef_format::header::{BEGIN, CHUNK, END, is_set, tnf_number};
 use ndef_lang::RecordLanguage;
 use ndef_piece::{WholePiece, messages_are_walks, whole_piece};
 use ndef_value::Limits;
@@ -110,14 +112,15 @@ pub(crate) fn whole_record<'a, L: RecordLanguage>(
 }
 
 /// The bytes of the message at the front of these, where it is a record in one piece that the fast test finds right.
-pub(crate) fn lone_record<L: RecordLanguage>(limits: &Limits, bytes: &[u8]) -> Option<usize>
+#[inline(always)]
+fn lone_record<L: RecordLanguage>(limits: &Limits, bytes: &[u8]) -> Option<usize>
     ensures within { IfSome result (λ taken. taken ≤ length bytes.now) }
     ensures message { IfSome result (λ taken. HasRecords L.payloads limits.now (take taken bytes.now) 1) }
 {
     // For the proof alone.
     format_laws(limits);
     messages_are_walks();
-    // Of a message with more records the checker reads the first piece, so it isn't read here.
+    // Of a message with more records the first piece isn't read here.
     if !is_set(END, *bytes.first()?) {
         return None;
     }
@@ -128,8 +131,39 @@ pub(crate) fn lone_record<L: RecordLanguage>(limits: &Limits, bytes: &[u8]) -> O
     Some(bytes.len() - piece.rest.len())
 }
 
+/// Whether the first octet may be that of a message of one piece.
+#[inline(always)]
+fn begins_alone(bytes: &[u8]) -> bool {
+    match bytes.first() {
+        Some(octet) => {
+            is_set(BEGIN, *octet)
+                && is_set(END, *octet)
+                && !is_set(CHUNK, *octet)
+                && tnf_number(*octet) <= 5
+        }
+        None => false,
+    }
+}
+
+/// The same. A short record with a well-known type of one octet, such as a text or a URI, gets code of its own: so much
+/// is known of it that this takes few instructions.
+#[inline(always)]
+pub(crate) fn lone_message<L: RecordLanguage>(limits: &Limits, bytes: &[u8]) -> Option<usize>
+    ensures within { IfSome result (λ taken. taken ≤ length bytes.now) }
+    ensures message { IfSome result (λ taken. HasRecords L.payloads limits.now (take taken bytes.now) 1) }
+{
+    if let [0xd1, 1, ..] = bytes {
+        return lone_record::<L>(limits, bytes);
+    }
+    if !begins_alone(bytes) {
+        return None;
+    }
+    lone_record::<L>(limits, bytes)
+}
+
 /// The bytes of the record at the front of these, in one piece or more, and whether it ends the message.
 /// In more pieces, any payload has to be one of its type.
+#[inline(always)]
 fn accepted_record<L: RecordLanguage>(
     limits: &Limits,
     place: &Place,
@@ -155,12 +189,14 @@ fn accepted_record<L: RecordLanguage>(
 
 /// Accepts as many whole records at the front of the bytes as the fast test finds right: returns the number of
 /// their bytes, the place after them, and whether the message ends there.
+#[inline(always)]
 pub(crate) fn accepted_records<L: RecordLanguage>(
     limits: &Limits,
     place: Place,
     bytes: &[u8],
 ) -> (usize, Place, bool)
     ensures records { AreTakenRecords L.payloads limits.now place bytes.now result.0 result.1 result.2 }
+    ensures some { IsTrue result.2 → 0 < result.0 }
     ensures outer { place.inside ≡ false → result.1.inside ≡ false }
 {
     let mut at = 0;
@@ -176,4 +212,50 @@ pub(crate) fn accepted_records<L: RecordLanguage>(
         }
     }
     (at, found, false)
+}
+
+/// How far the fast test came: the number of bytes of the records that it found right, and the place after them.
+#[derive(Clone, Copy)]
+pub(crate) struct Passed {
+    pub(crate) taken: usize,
+    pub(crate) place: Place,
+}
+
+impl Passed {
+    /// It found none right.
+    #[inline(always)]
+    pub(crate) fn none(limits: &Limits) -> Passed
+        ensures taken { result.taken ≡ 0 }
+        ensures place { result.place ≡ numbers (start limits.now) }
+    {
+        Passed {
+            taken: 0,
+            place: Place::start(limits),
+        }
+    }
+}
+
+/// The message at the front of the bytes, where the fast test finds each of its records right; else how far it came.
+#[inline(always)]
+pub(crate) fn accepted_message<L: RecordLanguage>(
+    limits: &Limits,
+    bytes: &[u8],
+) -> Result<Checked, Passed>
+    ensures within { IfOk result (λ checked. checked.taken ≤ length bytes.now) }
+    ensures message { IfOk result (λ checked.
+        HasRecords L.payloads limits.now (take checked.taken bytes.now) checked.records) }
+    ensures passed { IfErr result (λ p.
+        AreTakenRecords L.payloads limits.now (numbers (start limits.now)) bytes.now p.taken p.place false) }
+{
+    // For the proof alone.
+    format_laws(limits);
+    messages_are_walks();
+    let (taken, place, last) = accepted_records::<L>(limits, Place::start(limits), bytes);
+    if !last {
+        return Err(Passed { taken, place });
+    }
+    Ok(Checked {
+        records: limits.records().saturating_sub(place.records),
+        taken: taken as u64,
+    })
 }

@@ -1,13 +1,14 @@
 //! The checker of a message: whole records and pieces, and else bytes of one field, one after another.
-ghost use Rattle.std.specs.Prelude.{◌≡◌, ◌+◌, ◌-◌, ◌<◌, ◌≤◌, ◌++◌, ◌∷◌, [], ℕ, List, length, take, None, if◌then◌else◌};
+ghost use Rattle.std.specs.Prelude.{◌≡◌, ◌+◌, ◌-◌, ◌<◌, ◌≤◌, ◌++◌, ◌∷◌, [], ℕ, List, length, take, false, None, if◌then◌else◌};
 ghost use Rattle.ndef_format.specs.Limits.{LimitValues, greatest_length};
 ghost use Rattle.ndef_format.specs.HeadReasons.{is_set};
 ghost use Rattle.ndef_message.specs.Feed.{Ends, IsLongestViable, Tells, TellsEnd, CountsRecords, CountsMessage};
 ghost use Rattle.ndef_message.specs.Machine.Fronts.{IsReachable, SomeLed, ForEachInput, Feeds};
-ghost use Rattle.ndef_message.specs.Machine.Accepted.{BeginsWith, IsFresh, IsReachableBetween, passed, record_of};
+ghost use Rattle.ndef_message.specs.Machine.Accepted.{AreTakenRecords, BeginsWith, IsFresh, IsReachableBetween, passed, record_of};
 ghost use Rattle.ndef_message.specs.Machine.State.{answer_of, MatchesInput, Onward};
 
 use crate::Fed;
+use crate::accepted::Passed;
 use crate::format::format_laws;
 use crate::phase::{Phase, Place};
 use crate::state::State;
@@ -84,6 +85,8 @@ impl<L: RecordLanguage> Checker<L> {
 /// The same functions, in terms of the bytes that the checker took, the records that they end and the point after them.
 impl<L: RecordLanguage> Checker<L> {
     ghost use Rattle.ndef_message.specs.Machine.Points.{start_point};
+    ghost use Rattle.ndef_message.specs.Machine.State.{numbers};
+    ghost use Rattle.ndef_piece.specs.Walk.{start};
     ghost use Rattle.ndef_message.specs.Machine.Checkers.{CheckerReached, checker_limits};
 
     /// Returns a checker before the first byte.
@@ -107,13 +110,53 @@ impl<L: RecordLanguage> Checker<L> {
         }
     }
 
+    /// Returns a checker after the records with which the input begins.
+    pub(crate) fn after_records(limits: Limits, input: &[u8], passed: Passed) -> Self
+        requires { AreTakenRecords L.payloads limits (numbers (start limits))
+            input.now passed.taken passed.place false }
+        ensures limits { checker_limits result ≡ limits }
+        ensures reached { IsReachable (CheckerReached result) (take passed.taken input.now) }
+    {
+        // For the proof alone.
+        format_laws(&limits);
+        let mut checker = Checker::<L>::start(limits);
+        if passed.taken == 0 {
+            return checker;
+        }
+        checker.state.advance_past(&limits, passed.place, false);
+        checker.taken = passed.taken as u64;
+        checker
+    }
+
     /// Takes bytes up to the last one of the message or the first that is refused.
     pub(crate) fn feed_bytes(&mut self, bytes: &[u8]) -> Fed
         ensures limits { checker_limits self.new ≡ checker_limits self.old }
         ensures fed { ForEachInput (CheckerReached self.old) (λ front given point.
             Feeds L.payloads L.reasons (checker_limits self.old) (CheckerReached self.new) front bytes.now result) }
     {
+        if bytes.len() == 1 {
+            return self.feed_octet(bytes);
+        }
         self.feed_tried(bytes, false)
+    }
+
+    /// The same for one byte, with which no whole record or piece comes.
+    fn feed_octet(&mut self, bytes: &[u8]) -> Fed
+        requires { length bytes.now ≡ 1 }
+        ensures limits { checker_limits self.new ≡ checker_limits self.old }
+        ensures fed { ForEachInput (CheckerReached self.old) (λ front given point.
+            Feeds L.payloads L.reasons (checker_limits self.old) (CheckerReached self.new) front bytes.now result) }
+    {
+        // For the proof alone.
+        format_laws(&self.limits);
+        if let Some(answer) = self.answer(0) {
+            return answer;
+        }
+        let count = self.step(bytes);
+        match self.answer(count) {
+            Some(answer) => answer,
+            None => Fed::More,
+        }
     }
 
     /// The same. Where `tried` is set, the fast test has just failed on the record at the front of the bytes, and isn't

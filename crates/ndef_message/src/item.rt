@@ -1,5 +1,5 @@
 //! A record of a message, where it lies.
-ghost use Rattle.std.specs.Prelude.{◌≡◌, ◌<◌, ◌∷◌, [], false, length, option_map, IfOk};
+ghost use Rattle.std.specs.Prelude.{◌≡◌, ◌<◌, ◌∷◌, [], false, length, option_map, IfOk, IsOk};
 ghost use Rattle.std.specs.List.{concat};
 ghost use Rattle.ndef_format.specs.Canonical.{HasLengths};
 ghost use Rattle.ndef_format.specs.Messages.{IsShaped, run_record};
@@ -119,9 +119,11 @@ impl<'a> Item<'a> {
         }
     }
 
-    /// A copy of the payload, all pieces joined; or `NoMemory` where an allocation fails.
+    /// A copy of the payload, all pieces joined; or `NoMemory` where an allocation fails, which never happens for an
+    /// empty payload, since it needs no memory.
     pub fn joined(&self, alloc: Global) -> Result<Bytes, NoMemory>
-        ensures { IfOk result (λ b. b ≡ (run_record self.now).payload) }
+        ensures ok { IfOk result (λ b. b ≡ (run_record self.now).payload) }
+        ensures empty { (run_record self.now).payload ≡ [] → IsOk result }
     {
         let mut payload = Bytes::new(alloc);
         for piece in self.pieces() {

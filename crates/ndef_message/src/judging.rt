@@ -1,27 +1,25 @@
-//! A whole input at once, where the fast test of a lone record fails.
-ghost use Rattle.std.specs.Prelude.{◌≤◌, length, take, IfErr, IfOk, IfSome};
+//! A whole input at once, where the fast test of one record fails.
+ghost use Rattle.std.specs.Prelude.{◌≤◌, length, take, false, IfErr, IfOk, IfSome};
 ghost use Rattle.ndef_format.specs.Refusals.{Refuses};
 ghost use Rattle.ndef_message.specs.Checkings.{HasRecords};
+ghost use Rattle.ndef_message.specs.Machine.Accepted.{AreTakenRecords};
+ghost use Rattle.ndef_message.specs.Machine.State.{numbers};
+ghost use Rattle.ndef_piece.specs.Walk.{start};
 
+use crate::accepted::{Passed, accepted_message};
+use crate::begun::refused_payload;
 use crate::format::format_laws;
 use crate::phase::Place;
 use crate::{Checked, Checker, Fed};
-use ndef_format::header::{END, is_set};
+use ndef_format::header::{BEGIN, END, is_set, tnf_number};
 use ndef_lang::RecordLanguage;
 use ndef_piece::first_reason;
-use ndef_value::{Limits, Refusal};
+use ndef_value::{Limits, Reason, Refusal};
 
-/// Whether the first piece is the last of a message, so that the fast test has looked at it.
-fn is_lone(input: &[u8]) -> bool {
-    match input.first() {
-        Some(octet) => is_set(END, *octet),
-        None => false,
-    }
-}
-
-/// Returns the refusal of the input, if its flags or its type name format make its first octet refused.
-fn refused_at_once<L: RecordLanguage>(limits: &Limits, input: &[u8]) -> Option<Refusal>
-    ensures { IfSome result (Refuses L.payloads L.reasons limits.now input.now) }
+/// Returns the reason why the first octet of the input is refused, if its flags or its type name format make it so.
+fn refused_at_once<L: RecordLanguage>(limits: &Limits, input: &[u8]) -> Option<Reason>
+    ensures { IfSome result (λ r.
+        Refuses L.payloads L.reasons limits.now input.now (record { at = 0; reason = r })) }
 {
     // For the proof alone.
     format_laws(limits);
@@ -29,32 +27,96 @@ fn refused_at_once<L: RecordLanguage>(limits: &Limits, input: &[u8]) -> Option<R
         return None;
     };
     let reason = first_reason(&Place::start(limits).spot(limits.profile()), *octet)?;
-    Some(Refusal { at: 0, reason })
+    Some(reason)
 }
 
-/// The message at the front of the input, or where and why it is refused.
+/// The message at the front of the input, or where and why it is refused, by a checker that begins where the fast test
+/// stopped. It isn't inlined, so that a refused payload makes no checker.
 #[inline(never)]
-pub(crate) fn judge<L: RecordLanguage>(limits: Limits, input: &[u8]) -> Result<Checked, Refusal>
+fn judge_fed<L: RecordLanguage>(
+    limits: &Limits,
+    input: &[u8],
+    passed: Passed,
+) -> Result<Checked, Refusal>
+    requires { AreTakenRecords L.payloads limits.now (numbers (start limits.now))
+        input.now passed.taken passed.place false }
     ensures within { IfOk result (λ checked. checked.taken ≤ length input.now) }
     ensures message { IfOk result (λ checked.
-        HasRecords L.payloads limits (take checked.taken input.now) checked.records) }
-    ensures refused { IfErr result (Refuses L.payloads L.reasons limits input.now) }
+        HasRecords L.payloads limits.now (take checked.taken input.now) checked.records) }
+    ensures refused { IfErr result (Refuses L.payloads L.reasons limits.now input.now) }
 {
     // For the proof alone.
-    format_laws(&limits);
-    if let Some(refusal) = refused_at_once::<L>(&limits, input) {
-        return Err(refusal);
-    }
-    let mut checker = Checker::<L>::start(limits);
-    match checker.feed_tried(input, is_lone(input)) {
+    format_laws(limits);
+    let mut checker = Checker::<L>::after_records(*limits, input, passed);
+    match checker.feed_tried(&input[passed.taken..], true) {
         Fed::More => match checker.judge_end() {
             Ok(()) => unreachable!(),
             Err(refusal) => Err(refusal),
         },
         Fed::Done { taken } => Ok(Checked {
             records: checker.ended_records(),
-            taken: taken as u64,
+            taken: (passed.taken + taken) as u64,
         }),
         Fed::Refused(refusal) => Err(refusal),
     }
+}
+
+/// The message at the front of the input, or where and why it is refused; the fast test came as far as that.
+#[inline(never)]
+fn judge_from<L: RecordLanguage>(
+    limits: &Limits,
+    input: &[u8],
+    passed: Passed,
+) -> Result<Checked, Refusal>
+    requires { AreTakenRecords L.payloads limits.now (numbers (start limits.now))
+        input.now passed.taken passed.place false }
+    ensures within { IfOk result (λ checked. checked.taken ≤ length input.now) }
+    ensures message { IfOk result (λ checked.
+        HasRecords L.payloads limits.now (take checked.taken input.now) checked.records) }
+    ensures refused { IfErr result (Refuses L.payloads L.reasons limits.now input.now) }
+{
+    match refused_payload::<L>(limits, input, &passed) {
+        Some(refusal) => Err(refusal),
+        None => judge_fed::<L>(limits, input, passed),
+    }
+}
+
+/// Whether a message of more pieces than one begins there.
+#[inline(always)]
+fn begins_more(input: &[u8]) -> bool {
+    match input.first() {
+        Some(octet) => is_set(BEGIN, *octet) && !is_set(END, *octet) && tnf_number(*octet) <= 5,
+        None => false,
+    }
+}
+
+/// The message of more pieces than one at the front of the input, or where and why it is refused.
+#[inline(never)]
+fn judge_more<L: RecordLanguage>(limits: &Limits, input: &[u8]) -> Result<Checked, Refusal>
+    ensures within { IfOk result (λ checked. checked.taken ≤ length input.now) }
+    ensures message { IfOk result (λ checked.
+        HasRecords L.payloads limits.now (take checked.taken input.now) checked.records) }
+    ensures refused { IfErr result (Refuses L.payloads L.reasons limits.now input.now) }
+{
+    match accepted_message::<L>(limits, input) {
+        Ok(checked) => Ok(checked),
+        Err(passed) => judge_from::<L>(limits, input, passed),
+    }
+}
+
+/// The message at the front of the input, or where and why it is refused, where the fast test of one record fails.
+#[inline(always)]
+pub(crate) fn judge<L: RecordLanguage>(limits: &Limits, input: &[u8]) -> Result<Checked, Refusal>
+    ensures within { IfOk result (λ checked. checked.taken ≤ length input.now) }
+    ensures message { IfOk result (λ checked.
+        HasRecords L.payloads limits.now (take checked.taken input.now) checked.records) }
+    ensures refused { IfErr result (Refuses L.payloads L.reasons limits.now input.now) }
+{
+    if begins_more(input) {
+        return judge_more::<L>(limits, input);
+    }
+    if let Some(reason) = refused_at_once::<L>(limits, input) {
+        return Err(Refusal { at: 0, reason });
+    }
+    judge_from::<L>(limits, input, Passed::none(limits))
 }

@@ -4,7 +4,7 @@ ghost use Rattle.ndef_format.specs.Refusals.{Refuses};
 ghost use Rattle.ndef_message.specs.Views.{IsViewOf};
 
 use crate::View;
-use crate::accepted::lone_record;
+use crate::accepted::lone_message;
 use crate::format::format_laws;
 use crate::judging::judge;
 use ndef_lang::RecordLanguage;
@@ -22,10 +22,10 @@ pub fn view<L: RecordLanguage>(bytes: &[u8], limits: Limits) -> Result<View<'_>,
 {
     // For the proof alone.
     format_laws(&limits);
-    if let Some(taken) = lone_record::<L>(&limits, bytes) {
+    if let Some(taken) = lone_message::<L>(&limits, bytes) {
         return Ok(View::new(&bytes[..taken], 1, limits.profile()));
     }
-    match judge::<L>(limits, bytes) {
+    match judge::<L>(&limits, bytes) {
         Ok(checked) => Ok(View::new(
             &bytes[..checked.taken as usize],
             checked.records,

@@ -136,6 +136,7 @@ impl Nest {
     }
 
     /// The same in a head.
+    #[inline(always)]
     fn head_span(&self) -> (u64, u64)
         requires { self.now.phase ≡ NestPhase.Head }
         ensures { result ≡ nest_head_span self.now }
@@ -251,6 +252,7 @@ impl Nest {
     }
 
     /// Takes an octet of a head. Returns the bounds of the head where it goes on.
+    #[inline(always)]
     fn at_head(&mut self, byte: u8) -> Option<Bounds>
         requires { self.old.phase ≡ NestPhase.Head }
         ensures future { Continues (future self.old) (future self.new) (byte ∷ []) }
@@ -295,6 +297,7 @@ impl Nest {
     }
 
     /// Takes an octet. Returns the bounds of the head where that goes on.
+    #[inline(always)]
     fn stepped(&mut self, byte: u8) -> Option<Bounds>
         ensures future { Continues (future self.old) (future self.new) (byte ∷ []) }
         ensures reached { ReachesEach (reached self.old) (reached self.new) (byte ∷ []) }

@@ -4,6 +4,8 @@ pub mod Heads
 pub mod Conditions
 pub mod Ranges
 pub mod Bounds
+pub mod Come
+pub mod Steps
 pub mod Pieces
 pub mod Field
 pub mod Walk
@@ -11,3 +13,4 @@ pub mod Fronts
 pub mod Rest
 pub mod Whole
 pub mod Machine
+pub mod ComeLaws

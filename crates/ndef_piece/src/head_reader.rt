@@ -111,6 +111,7 @@ impl HeadReader {
 
     /// Returns the head at the front of the bytes, and its number of octets, if no octet has come yet and the bytes
     /// show at once that it is whole and may occur at the spot.
+    #[inline(always)]
     pub fn whole_head(&self, bytes: &[u8]) -> Option<(Head, usize)>
         ensures fresh { IfSome result (λ r. self.now.octets ≡ []) }
         ensures begins { IfSome result (λ r. BeginWithHead self.now.spot bytes.now r.0 r.1) }

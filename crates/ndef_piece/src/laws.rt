@@ -1,5 +1,6 @@
 //! Properties of heads, pieces and messages, for every reader and writer.
 ghost use Rattle.ndef_piece.specs.Heads.{HeadsAreUnambiguous, HeadsHaveSizes, HeadersTell};
+ghost use Rattle.ndef_piece.specs.Come.{PiecesBegin};
 ghost use Rattle.ndef_piece.specs.Conditions.{ConditionsAreInOrder};
 ghost use Rattle.ndef_piece.specs.Machine.Reading.{ConditionsAreExact, OneAnswer};
 ghost use Rattle.ndef_piece.specs.Bounds.{BoundsOfFronts, BoundsOfHeads};
@@ -73,4 +74,9 @@ pub fn messages_are_read_by_heads()
     ensures past { RestsPastHeads }
     ensures within { RestsWithinHeads }
     ensures follow { RestsCanFollow }
+{}
+
+/// Bytes begin with a whole piece wherever there are as many of them as its lengths say.
+pub fn pieces_begin_by_size()
+    ensures { PiecesBegin }
 {}

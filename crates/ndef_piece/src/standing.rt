@@ -10,6 +10,7 @@ use ndef_format::header::{BEGIN, CHUNK, END, ID_THERE, is_set, tnf_number};
 use ndef_value::Profile;
 
 /// Whether a record in one piece may have this type name format and these lengths.
+#[inline(always)]
 fn has_shape(profile: Profile, tnf: u8, kind: usize, id: usize, payload: usize) -> bool
     ensures { IsTrue result → IsRead profile tnf × (tnf ≢ 6) × HasShape (tnf_of tnf) kind id payload }
 {
@@ -25,6 +26,7 @@ fn has_shape(profile: Profile, tnf: u8, kind: usize, id: usize, payload: usize) 
 }
 
 /// Whether the flags may occur at the spot, and `payload` bytes fit in its payload budget.
+#[inline(always)]
 pub(crate) fn suits(spot: &Spot, header: u8, payload: usize) -> bool
     ensures begins { IsTrue result → is_set 7 header ≡ spot.now.first }
     ensures chunked { IsTrue result → is_set 5 header ≡ true
@@ -43,6 +45,7 @@ pub(crate) fn suits(spot: &Spot, header: u8, payload: usize) -> bool
 }
 
 /// Whether a piece with this header octet and these lengths may occur at the spot and begins a record there.
+#[inline(always)]
 pub(crate) fn opens(spot: &Spot, header: u8, kind: usize, id: usize, payload: usize) -> bool
     ensures outside { IsTrue result → spot.now.inside ≡ false }
     ensures read { IsTrue result → IsRead spot.now.profile (tnf_number header) }

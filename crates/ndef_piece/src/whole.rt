@@ -1,5 +1,5 @@
 //! A whole piece at the front of a slice, its parts left where they are.
-ghost use Rattle.std.specs.Prelude.{◌≡◌, ◌^◌, ◌<◌, ◌++◌, false, true, length, IfNone, IfSome, IsTrue, Some, None, [], if◌then◌else◌};
+ghost use Rattle.std.specs.Prelude.{◌≡◌, ◌+◌, ◌^◌, ◌<◌, ◌≤◌, ◌++◌, false, true, length, slice_index, IfNone, IfSome, IsTrue, Some, None, [], if◌then◌else◌};
 ghost use Rattle.ndef_format.specs.Records.{FitsForm, id_length_octets, payload_length_octets, tnf_of};
 ghost use Rattle.ndef_format.specs.HeadReasons.{is_set, tnf_number, width};
 ghost use Rattle.ndef_format.specs.Positions.{IsConsistentAt};
@@ -28,6 +28,7 @@ pub struct WholePiece<'a> {
 }
 
 /// PAYLOAD_LENGTH at the front of the bytes, and the rest after it.
+#[inline(always)]
 fn payload_length_at(header: u8, bytes: &[u8]) -> Option<(u32, &[u8])>
     ensures small { IfSome result (λ r. r.0 < 2 ^ 32) }
     ensures form { IfSome result (λ r. FitsForm (is_set 4 header) r.0) }
@@ -48,6 +49,7 @@ fn payload_length_at(header: u8, bytes: &[u8]) -> Option<(u32, &[u8])>
 }
 
 /// ID_LENGTH at the front of the bytes, 0 where IL is clear, and the rest after it.
+#[inline(always)]
 fn id_length_at(header: u8, bytes: &[u8]) -> Option<(u8, &[u8])>
     ensures joined { IfSome result (λ r. bytes.now
         ≡ id_length_octets (if is_set 3 header then Some r.0 else None) ++ r.1.now) }
@@ -64,6 +66,7 @@ fn id_length_at(header: u8, bytes: &[u8]) -> Option<(u8, &[u8])>
 }
 
 /// The head at the front of the bytes, and its number of octets, if it is whole and may occur at the spot.
+#[inline(always)]
 pub(crate) fn head_at(spot: &Spot, bytes: &[u8]) -> Option<(Head, usize)>
     ensures { IfSome result (λ r. BeginWithHead spot.now bytes.now r.0 r.1) }
 {
@@ -95,6 +98,7 @@ pub(crate) fn head_at(spot: &Spot, bytes: &[u8]) -> Option<(Head, usize)>
 }
 
 /// The first `count` bytes, and the rest after them.
+#[inline(always)]
 fn cut(bytes: &[u8], count: usize) -> Option<(&[u8], &[u8])>
     ensures length { IfSome result (λ r. length r.0.now ≡ count) }
     ensures joined { IfSome result (λ r. bytes.now ≡ r.0.now ++ r.1.now) }
@@ -108,9 +112,12 @@ fn cut(bytes: &[u8], count: usize) -> Option<(&[u8], &[u8])>
 
 /// The piece at the front of the bytes, or None if they don't hold a whole one (NDEF 1.0, record
 /// layout). Any header octet will do: the call doesn't check whether the piece may occur in a message.
+#[inline(always)]
 pub fn whole_piece(bytes: &[u8]) -> Option<WholePiece<'_>>
     ensures piece { IfSome result (λ w. IsSplit (shown w) (is_set 4 w.header) w.rest.now bytes.now) }
     ensures no_id { IfSome result (λ w. is_set 3 w.header ≡ false → w.id.now ≡ []) }
+    ensures header { IfSome result (λ w. w.header ≡ slice_index bytes.now 0) }
+    ensures fits { IfSome result (λ w. 3 + length w.payload.now + length w.rest.now ≤ length bytes.now) }
     ensures none { IfNone result (¬ BeginWithPiece bytes.now) }
 {
     let [header, kind_length, rest @ ..] = bytes else {
@@ -164,6 +171,7 @@ impl WholePiece<'_> {
     }
 
     /// Whether it is clear at once that it may occur at the spot and begins a record there.
+    #[inline(always)]
     pub fn opens_at(&self, spot: &Spot) -> bool
         ensures stands { IsTrue result → IsConsistentAt spot.now (shown self.now) }
         ensures outside { IsTrue result → spot.now.inside ≡ false }
@@ -178,6 +186,7 @@ impl WholePiece<'_> {
     }
 
     /// Whether it is clear at once that it may occur at the spot and is a record in one piece.
+    #[inline(always)]
     pub fn is_record_at(&self, spot: &Spot) -> bool
         ensures stands { IsTrue result → IsConsistentAt spot.now (shown self.now) }
         ensures one { IsTrue result → is_set 5 self.now.header ≡ false }

@@ -1,12 +1,13 @@
 //! The choices that the words make.
 ghost use Rattle.std.specs.Prelude.{◌≡◌, map, string_bytes, IfOk, IfSome};
-ghost use Rattle.clap.specs.Words.{rows_of, found_of, subcommand_rows_of};
+ghost use Rattle.clap.specs.Words.{HasKind, fault_of, found_of, rows_of, subcommand_rows_of};
 ghost use Rattle.ndef_tool.specs.Chosen.{Chooses, HasSize, HasSizeIfAny, chosen_action, subcommand_choice, chosen_of, chunk_of};
 ghost use Rattle.ndef_tool.specs.Chosen.{form_named, chosen_form};
+ghost use Rattle.ndef_tool.specs.CommandLine.{ndef_app};
 
 use crate::command::ndef_command;
-use clap::ArgMatches;
 use clap::error::ErrorKind;
+use clap::{ArgMatches, Error};
 use ndef_cli::{ArgsError, hex_given, limits_given, number_given, option_text};
 use ndef_message::Form;
 use ndef_value::Limits;
@@ -120,5 +121,19 @@ pub fn choose(alloc: Global, words: &[String]) -> Result<Choice, ArgsError>
             ErrorKind::OutOfMemory => Err(ArgsError::NoMemory),
             _ => Err(ArgsError::Usage),
         },
+    }
+}
+
+/// Returns clap's error for the words, for standard error: it names the word, and the option that was likely meant.
+/// None if clap accepts them. Of the words the first is the program's name.
+pub fn args_fault(alloc: Global, words: &[String]) -> Option<Error>
+    ensures { IfSome result (λ error. HasKind (fault_of ndef_app (map string_bytes words.now)) error) }
+{
+    let Ok(command) = ndef_command(alloc) else {
+        return None;
+    };
+    match command.try_get_matches_from(words) {
+        Ok(_) => None,
+        Err(error) => Some(error),
     }
 }

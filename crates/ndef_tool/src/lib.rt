@@ -10,6 +10,7 @@
 //! - `showing.rt`: the lines of records. `value_lines.rt`, `poster_lines.rt`, `handover_lines.rt`: of
 //!   their payloads.
 //! - `linking.rt`: the lines of links. `quoting.rt`: parts of lines.
+//! - `kinds.rt`: the kind of a record. `laws.rt`: that the output is one text.
 //! - `system.rt`: a run over the files and the standard streams of the system. `operands.rt`: the files that the words
 //!   name. `pages.rt`: the pages about the program itself.
 #![tactic(auto)]
@@ -34,7 +35,7 @@ mod showing;
 mod system;
 mod value_lines;
 
-pub use choice::{Action, Choice, choose};
+pub use choice::{Action, Choice, args_fault, choose};
 pub use hexadecimal::read_hexadecimal;
 pub use running::run;
 pub use session::{Session, handle};

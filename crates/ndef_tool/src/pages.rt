@@ -5,7 +5,7 @@ use ndef_cli::Page;
 pub(crate) fn page_text(page: Page) -> &'static [u8] {
     match page {
         Page::Help => HELP,
-        Page::Version => b"ndef 1.0.0\n",
+        Page::Version => b"ndef 1.1.0.dev\n",
     }
 }
 
@@ -36,8 +36,8 @@ An input has at most 10000 messages.
 
 Alone:
 
-  --help              print this page
-  --version           print the name and the version
+  --help              print this page on standard error; so does -h
+  --version           print the name and the version; so does -V
 
 Examples:
 

@@ -1,10 +1,10 @@
 //! The command over the system: its files and its standard streams.
 use crate::operands::{Operands, split_words};
 use crate::pages::page_text;
-use crate::{choose, run};
+use crate::{args_fault, choose, run};
 use ndef_cli::{
-    ArgsError, Reader, Status, exit_code, exit_code_after, open_file, page_asked, push_quoted,
-    tell_cause, tell_words, texts, worse,
+    ArgsError, Page, Reader, Status, exit_code, exit_code_after, open_file, page_asked,
+    push_quoted, tell_cause, tell_words, texts, worse,
 };
 use ndef_message::{Sink, SliceSource, StdSink, StdSource, send};
 use ndef_value::{Bytes, NoMemory};
@@ -84,9 +84,32 @@ fn is_headed<K: Sink>(alloc: Global, name: &str, sink: &mut K) -> bool {
     }
 }
 
-/// Prints the usage line, since the options choose nothing.
-fn say_usage<K: Sink>(alloc: Global, options: &[String], sink: &mut K) -> Status {
-    run(alloc, options, &mut SliceSource::whole(b""), sink)
+/// What standard error says of words that clap accepts and that choose nothing: one of these values is wrong.
+const BAD_VALUE: &[u8] =
+    b"error: --profile takes strict or standard, and --form takes short or long\n";
+
+/// Prints the usage line, since the options choose nothing. Standard error says which word is wrong.
+fn print_usage<K: Sink>(rt: &HostRuntime, options: &[String], sink: &mut K) -> Status {
+    let _ = match args_fault(rt.alloc(), options) {
+        Some(error) => error.print(rt),
+        None => rt.stderr().write_all(BAD_VALUE),
+    };
+    run(rt.alloc(), options, &mut SliceSource::whole(b""), sink)
+}
+
+/// Prints a page. That of the version goes to standard output; the description goes to standard error, and the
+/// usage line to standard output.
+fn print_page<K: Sink>(rt: &HostRuntime, page: Page, sink: &mut K) -> Status {
+    match page {
+        Page::Help => {
+            let _ = rt.stderr().write_all(page_text(page));
+            run(rt.alloc(), &[], &mut SliceSource::whole(b""), sink)
+        }
+        Page::Version => match send(0, page_text(page), sink) {
+            Ok(_) => Status::Clean,
+            Err(_) => Status::Fault,
+        },
+    }
 }
 
 /// Runs the command over one file after another. Where there are several, the lines of each come after one with its
@@ -112,18 +135,18 @@ fn chooses_nothing(alloc: Global, options: &[String]) -> bool {
 /// Runs the command for the words: prints a page, or handles the files that are named, or else standard input.
 fn run_args<K: Sink>(rt: &HostRuntime, words: Vec<String>, sink: &mut K) -> Status {
     if let Some(page) = page_asked(words.as_slice()) {
-        return match send(0, page_text(page), sink) {
-            Ok(_) => Status::Clean,
-            Err(_) => Status::Fault,
-        };
+        return print_page(rt, page, sink);
     }
-    match split_words(rt.alloc(), words) {
-        Ok(asked) if asked.files.is_empty() => run_input(rt, asked.options.as_slice(), sink),
-        Ok(asked) if chooses_nothing(rt.alloc(), asked.options.as_slice()) => {
-            say_usage(rt.alloc(), asked.options.as_slice(), sink)
-        }
-        Ok(asked) => run_files(rt, &asked, sink),
-        Err(_) => Status::Fault,
+    let Ok(asked) = split_words(rt.alloc(), words) else {
+        return Status::Fault;
+    };
+    let options = asked.options.as_slice();
+    if chooses_nothing(rt.alloc(), options) {
+        print_usage(rt, options, sink)
+    } else if asked.files.is_empty() {
+        run_input(rt, options, sink)
+    } else {
+        run_files(rt, &asked, sink)
     }
 }
 

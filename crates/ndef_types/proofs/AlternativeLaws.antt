@@ -43,14 +43,17 @@ one_auxiliary : (s : List ℕ) (a b : List (List ℕ)) (p q : List ℕ) → Stan
 one_auxiliary [] a b p q x y = absurd x
 one_auxiliary (n ∷ s) a b p q x y = one_names n s a b p q x y
 
-pub one_ac : OneValue IsAlternative StandsForAc
-one_ac [] v w h x y = absurd x
-one_ac (f ∷ []) v w h x y = absurd x
-one_ac (f ∷ n ∷ s) v w h x y =
+pub same_ac : (s : List ℕ) (v w : AcValue) → StandsForAc s v → StandsForAc s w → v ≡ w
+same_ac [] v w x y = absurd x
+same_ac (f ∷ []) v w x y = absurd x
+same_ac (f ∷ n ∷ s) v w x y =
     let a : v.power ≡ w.power = same_power v.power w.power (sym x.0 ∙ y.0) in
     let b : v.reference ≡ w.reference = sym x.1 ∙ y.1 in
     let c = one_auxiliary (drop n s) v.auxiliary w.auxiliary v.rest w.rest x.2 y.2 in
     λ i. record { power = a i; reference = b i; auxiliary = c.0 i; rest = c.1 i }
+
+pub one_ac : OneValue IsAlternative StandsForAc
+one_ac s v w h x y = same_ac s v w x y
 
 -- ---- each payload has a value
 

@@ -10,6 +10,7 @@ pub mod FirstIds
 pub mod LinkLemmas
 pub mod MessageLaws
 pub mod NestedLemmas
+pub mod OneLinks
 pub mod PieceLemmas
 pub mod PosterLemmas
 pub mod PrefixLemmas

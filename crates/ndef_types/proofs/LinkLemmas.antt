@@ -28,10 +28,6 @@ pub link_here : (outer items : List Item) (i : Item) (k : Link) (links : List Li
     → AreLinks outer (alternatives items) links → AreLinks outer (alternatives (i ∷ items)) (k ∷ links)
 link_here outer items i k links a s x h = rw (alternative_here i items a) (s, x, h)
 
--- another record in front
-pub link_later : (outer items : List Item) (i : Item) (links : List Link) → kind_of i.tnf i.kind ≢ kinds.Alternative → AreLinks outer (alternatives items) links → AreLinks outer (alternatives (i ∷ items)) links
-link_later outer items i links a h = rw (alternative_later i items a) h
-
 -- ---- the index of a record
 
 -- what is in front of the records that are left stands at their place
@@ -49,9 +45,6 @@ only_of p (q ∷ later) s e = absurd (cc)
 
 pub only_is_whole : (r : Run) (s : List ℕ) → Some s ≡ only_payload (pieces r) → s ≡ (run_record r).payload
 only_is_whole r s e = only_of r.initial r.later s e
-
-pub one_is_shown : (r : Run) → r.later ≡ [] → None ≡ only_payload (pieces r) → ⊥
-one_is_shown r l e = let x : None ≡ Some r.initial.payload = e ∙ ap (λ later. only_payload (r.initial ∷ later)) l in cc
 
 pub whole_carriers : (runs : List Run) → AllByRecursion (λ r. r.later ≡ []) runs → AllByRecursion (λ i. kind_of i.tnf i.kind ≡ kinds.Alternative → IsAlternative i.payload) (map run_record runs)
     → AllByRecursion HasWholeCarrier runs

@@ -30,7 +30,7 @@ none_is_flat : (profile : Profile) (runs : List Run) (items : List Item) → Spe
 none_is_flat profile [] items h = h.message.begins
 none_is_flat profile (r ∷ runs) items h = let k = h.spelled in omega (arith, ap length k.3, length-append k.1 k.2, ap length k.4.spelled)
 
-same_message : OneMeaning → (profile : Profile) (bytes : List ℕ) → (a b : Option (List Item)) → StandsForMessage profile bytes a → StandsForMessage profile bytes b → a ≡ b
+pub same_message : OneMeaning → (profile : Profile) (bytes : List ℕ) → (a b : Option (List Item)) → StandsForMessage profile bytes a → StandsForMessage profile bytes b → a ≡ b
 same_message one profile bytes None None x y = refl
 same_message one profile bytes None (Some b) x y = absurd (none_is_flat profile y.0 b (subst (SpellsBy profile y.0 b) x y.1))
 same_message one profile bytes (Some a) None x y = absurd (none_is_flat profile x.0 a (subst (SpellsBy profile x.0 a) y x.1))

@@ -111,7 +111,8 @@ message_or_none (i ∷ items) = Some (i ∷ items)
 abbrev pub BuildsSelect : List Item → Result SelectValue BuildError → Type 0
 BuildsSelect items (Ok select) = select ≡ record { minor = 2; message = message_or_none items }
 BuildsSelect items (Err errors.RecordCount) = 65535 < length items
-BuildsSelect items (Err (errors.Wrong index)) = IsFirstWrong tables.Select items index
+BuildsSelect items (Err (errors.Wrong index)) =
+    (length items ≤ 65535) × IsFirstWrong tables.Select items index
 BuildsSelect items (Err _) = ⊥
 
 -- Connection Handover 1.2, Handover Request record: a request of the records, in version 1.2, or
@@ -120,15 +121,16 @@ abbrev pub BuildsRequest : List Item → Result RequestValue BuildError → Type
 BuildsRequest items (Ok request) = (request ≡ record { minor = 2; items = items })
     × HasContents tables.Request Strict items
 BuildsRequest items (Err errors.RecordCount) = IsNoCount (length items)
-BuildsRequest items (Err (errors.Wrong index)) = IsFirstWrong tables.Request items index
+BuildsRequest items (Err (errors.Wrong index)) =
+    (IsNoCount (length items) → ⊥) × IsFirstWrong tables.Request items index
 BuildsRequest items (Err _) = ⊥
 
 -- RTD Smart Poster 1.0: a poster of the records, or the error of the records
 abbrev pub BuildsPoster : List Item → Result (List Item) BuildError → Type 0
 BuildsPoster items (Ok poster) = (poster ≡ items) × HasContents tables.SmartPoster Strict items
 BuildsPoster items (Err errors.RecordCount) = IsNoCount (length items)
-BuildsPoster items (Err (errors.Wrong index)) =
-    IsFirstWrong tables.SmartPoster items index ⊎ LacksUri items index
+BuildsPoster items (Err (errors.Wrong index)) = (IsNoCount (length items) → ⊥)
+    × (IsFirstWrong tables.SmartPoster items index ⊎ LacksUri items index)
 BuildsPoster items (Err _) = ⊥
 
 -- ---- faults

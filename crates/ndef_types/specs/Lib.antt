@@ -7,6 +7,7 @@ pub mod DecodingLaws
 pub mod Equality
 pub mod EqualityLaws
 pub mod Handovers
+pub mod Headline
 pub mod Ids
 pub mod Links
 pub mod Posters

@@ -99,6 +99,11 @@ abbrev pub FindsLinks : Profile → List Item → Result (List Link) LinkError �
 FindsLinks profile outer result = (i : Option Item) × IsFirstOf IsHandoverRecord outer i
     × LinksOf profile outer i result
 
+-- Connection Handover 1.2: a message has at most one list of links
+abbrev pub OneListOfLinks : Type 0
+OneListOfLinks = (profile : Profile) (outer : List Item) (a b : List Link)
+    → FindsLinks profile outer (Ok a) → FindsLinks profile outer (Ok b) → a ≡ b
+
 -- Connection Handover 1.2: the first handover request or select of a message has an alternative
 -- carrier
 abbrev pub HasLinks : Profile → List Item → Type 0

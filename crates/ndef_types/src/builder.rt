@@ -1,5 +1,5 @@
 //! Records of a message within a payload, added one by one.
-ghost use Rattle.std.specs.Prelude.{◌≡◌, ◌↔◌, ◌<◌, ◌≤◌, ◌^◌, ◌++◌, ◌∷◌, ℕ, List, [], length, chars, IfErr, IfNone, IfOk, IfSome, IsAscii, IsErrOf, IsTrue, OnErr, vec_capacity, vec_len};
+ghost use Rattle.std.specs.Prelude.{◌≡◌, ◌↔◌, ◌<◌, ◌≤◌, ◌^◌, ◌++◌, ◌∷◌, ℕ, List, [], length, chars, IfErr, IfOk, IsAscii, IsErr, IsErrOf, IsTrue, OnErr, vec_capacity, vec_len};
 ghost use Rattle.ndef_format.specs.Kinds.{kind_name};
 ghost use Rattle.ndef_format.specs.declared.kind.Kind.TheVariants as kinds;
 ghost use Rattle.ndef_types.specs.Decoding.{IsTooLong};
@@ -45,15 +45,16 @@ fn uri_fits(uri: &str) -> bool
     split(uri).1.len() < MOST
 }
 
-/// The message of the records; None if there are none, or more than 65535.
-fn message_of(records: Vec<Record>) -> Option<Message>
-    ensures message { IfSome result (λ m. m ≡ records.items) }
-    ensures none { IfNone result (IsNoCount (length records.items)) }
+/// The message of the records; `RecordCount` if there are none, or more than 65535.
+fn message_of(records: Vec<Record>) -> Result<Message, BuildError>
+    ensures message { IfOk result (λ m. m ≡ records.items) }
+    ensures count { IsErr result ↔ IsNoCount (length records.items) }
+    ensures fault { IfErr result (λ error. error ≡ errors.RecordCount) }
 {
     match Message::new(records) {
-        Ok(message) => Some(message),
-        Err(MessageError::NoRecords(_)) => None,
-        Err(MessageError::TooMany(_)) => None,
+        Ok(message) => Ok(message),
+        Err(MessageError::NoRecords(_)) => Err(BuildError::RecordCount),
+        Err(MessageError::TooMany(_)) => Err(BuildError::RecordCount),
     }
 }
 
@@ -203,10 +204,7 @@ impl Builder {
                 Err(_) => unreachable!(),
             };
         }
-        let Some(message) = message_of(self.records) else {
-            return Err(BuildError::RecordCount);
-        };
-        match Select::new(2, Some(message)) {
+        match Select::new(2, Some(message_of(self.records)?)) {
             Ok(select) => Ok(select),
             Err(fault) => Err(BuildError::Wrong(fault.index)),
         }
@@ -217,10 +215,7 @@ impl Builder {
     pub fn request(self) -> Result<Request, BuildError>
         ensures { BuildsRequest self.records.items result }
     {
-        let Some(message) = message_of(self.records) else {
-            return Err(BuildError::RecordCount);
-        };
-        match Request::new(2, message) {
+        match Request::new(2, message_of(self.records)?) {
             Ok(request) => Ok(request),
             Err(fault) => Err(BuildError::Wrong(fault.index)),
         }
@@ -231,10 +226,7 @@ impl Builder {
     pub fn poster(self) -> Result<SmartPoster, BuildError>
         ensures { BuildsPoster self.records.items result }
     {
-        let Some(message) = message_of(self.records) else {
-            return Err(BuildError::RecordCount);
-        };
-        match SmartPoster::new(message) {
+        match SmartPoster::new(message_of(self.records)?) {
             Ok(poster) => Ok(poster),
             Err(fault) => Err(BuildError::Wrong(fault.index)),
         }

@@ -1,5 +1,5 @@
 //! Handover errors.
-ghost use Rattle.std.specs.Prelude.{◌≡◌, ◌≤◌, ◌^◌, ◌↔◌, length, slice_index, IsTrue, IfOk, IsErrOf};
+ghost use Rattle.std.specs.Prelude.{◌≡◌, ◌≤◌, ◌^◌, ◌↔◌, [], length, slice_index, IsTrue, IfOk, IsOk, IsErrOf};
 ghost use Rattle.ndef_format.specs.Handovers.{IsError, IsErrorData};
 ghost use Rattle.ndef_format.specs.Reasons.{NoReason};
 ghost use Rattle.ndef_types.specs.declared.handover_error.DetailError.TheVariants as errors;
@@ -135,10 +135,12 @@ pub fn goes_with(reason: u8, detail: &[u8]) -> bool
 }
 
 impl HandoverError {
-    /// An error of the reason with a copy of the data. `BadShape` comes before `NoMemory`.
+    /// An error of the reason with a copy of the data. `BadShape` comes before `NoMemory`, which never comes for empty
+    /// data.
     pub fn new(alloc: Global, reason: u8, detail: &[u8]) -> Result<HandoverError, DetailError>
         ensures ok { IfOk result (λ e. e ≡ record { reason = reason; detail = detail.now }) }
         ensures bad_shape { IsErrOf result DetailError.BadShape ↔ ¬ IsErrorData reason detail.now }
+        ensures empty { detail.now ≡ [] → IsErrorData reason detail.now → IsOk result }
     {
         if !goes_with(reason, detail) {
             return Err(DetailError::BadShape);

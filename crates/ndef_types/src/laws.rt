@@ -1,4 +1,4 @@
-//! Laws of the definitions: what was written for a value is decoded to it, and which values are equal.
+//! Laws of the definitions: what was written for a value is decoded to it, which values are equal, and the headline.
 ghost use Rattle.std.specs.Prelude.{IsUtf8};
 ghost use Rattle.ndef_format.specs.declared.profile.Profile.{Profile};
 ghost use Rattle.ndef_format.specs.Handovers.{IsAlternative, IsCarrier, IsError};
@@ -7,8 +7,12 @@ ghost use Rattle.ndef_format.specs.Texts.{IsText};
 ghost use Rattle.ndef_format.specs.PayloadReasons.{TextReason, UriReason};
 ghost use Rattle.ndef_format.specs.Uris.{IsUri};
 ghost use Rattle.ndef_types.specs.Decoding.{AreExact, EachHasValue, OnePayload, OneValue, ValuesRoundTrip, WritesPayloads};
+ghost use Rattle.ndef_types.specs.Headline.{Headline};
 ghost use Rattle.ndef_types.specs.Equality.{EqualAlternativesAreSame, EqualTextsAreSame};
 ghost use Rattle.ndef_types.specs.Values.{StandsForText, IsTextValue, WritesText, StandsForUri, WritesUri, StandsForError, IsErrorValue, WritesError, StandsForCarrier, IsCarrierValue, WritesCarrier, StandsForAc, IsAcValue, WritesAc};
+
+use ndef_message::{reading_gives_back, readings_are_exact};
+use ndef_nest::Typed;
 
 /// A payload of a Text record has one text as its value, and what `Text::encode` writes is such a payload
 /// and is decoded to the text that was written.
@@ -54,3 +58,13 @@ pub fn equality_is_exact()
     ensures texts { EqualTextsAreSame }
     ensures alternatives { EqualAlternativesAreSame }
 {}
+
+/// The headline, for the payloads that the standards define, as one statement: an answer that `read_message` may give
+/// by its contract for `Typed` is the message with which the input begins, or else a refusal where no continuation is
+/// one.
+pub fn typed_messages_are_read()
+    ensures { Headline }
+{
+    readings_are_exact::<Typed>();
+    reading_gives_back::<Typed>();
+}

@@ -7,6 +7,9 @@
 //!   `handover_error.rt`: a value each. Those of one record, such as a text, have a type of their parts
 //!   beside them, `TextParts`: slices of the payload, without memory. `alternative_parts.rt`: those of
 //!   an alternative carrier.
+//! - `encoding.rt`, `action.rt`, `power.rt`: the codes of texts, posters and carriers. `texts.rt`: the titles of a
+//!   poster. `prefixes.rt`: the prefixes of URIs. `utf16.rt`: texts in UTF-16. `fields.rt`: the fields of a payload.
+//! - `error.rt`, `not_handover.rt`: why there is no value. `laws.rt`, `message_laws.rt`: what is written is decoded.
 //! - `specs/Values.antt`, `specs/Posters.antt`, `specs/Handovers.antt`: the value of each
 //!   payload.
 //! - `specs/Decoding.antt`: the answers, and the laws. `accepting.rt`: the check that each decoder
@@ -62,10 +65,12 @@ pub use error::{DecodeError, EncodeError};
 pub use handover_error::{DetailError, ErrorParts, HandoverError, goes_with};
 pub use laws::{
     alternatives_are_exact, carriers_are_exact, equality_is_exact, errors_are_exact,
-    texts_are_exact, uris_are_exact,
+    texts_are_exact, typed_messages_are_read, uris_are_exact,
 };
 pub use link::{Link, LinkError, Links, carriers, carriers_as, carriers_view};
-pub use message_laws::{posters_are_exact, requests_are_exact, selects_are_exact};
+pub use message_laws::{
+    links_are_unique, posters_are_exact, requests_are_exact, selects_are_exact,
+};
 pub use not_handover::NotHandover;
 pub use power::Power;
 pub use prefixes::{prefix, split};

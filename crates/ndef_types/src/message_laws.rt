@@ -2,6 +2,7 @@
 ghost use Rattle.ndef_format.specs.declared.table.Table.TheVariants.{SmartPoster, Request, Select};
 ghost use Rattle.ndef_types.specs.Decoding.{NestsAreExact};
 ghost use Rattle.ndef_types.specs.Handovers.{IsRequestValue, IsSelectValue, StandsForRequest, StandsForSelect, WritesRequest, WritesSelect};
+ghost use Rattle.ndef_types.specs.Links.{OneListOfLinks};
 ghost use Rattle.ndef_types.specs.Posters.{IsPosterValue, StandsForPoster, WritesPoster};
 
 use ndef_nest::strict_contents_are_read;
@@ -35,4 +36,11 @@ pub fn selects_are_exact()
     one_meaning();
     canonical_is_a_spelling();
     strict_contents_are_read();
+}
+
+/// A message has one list of links: `carriers`, `carriers_as` and `carriers_view` give the same.
+pub fn links_are_unique()
+    ensures { OneListOfLinks }
+{
+    one_meaning();
 }

@@ -1,5 +1,5 @@
 //! Texts.
-ghost use Rattle.std.specs.Prelude.{◌≡◌, ◌<◌, ◌≤◌, ◌^◌, ◌++◌, ◌↔◌, true, false, length, slice_index, chars, encode_utf8_all, string_bytes, IsAscii, IsUtf8, IfNone, IfOk, IfSome, OnOk, IsErrOf, IsTrue};
+ghost use Rattle.std.specs.Prelude.{◌≡◌, ◌<◌, ◌≤◌, ◌^◌, ◌++◌, ◌↔◌, true, false, [], length, slice_index, chars, encode_utf8_all, string_bytes, IsAscii, IsUtf8, IfNone, IfOk, IfSome, OnOk, IsErrOf, IsOk, IsTrue};
 ghost use Rattle.ndef_types.specs.Equality.{text_eq, text_hash};
 ghost use Rattle.ndef_types.specs.EqualityLaws.{text_alike, text_equiv, text_per};
 ghost use Rattle.ndef_format.specs.Texts.{IsText, IsTextIn, is_wide};
@@ -63,6 +63,16 @@ impl From<AllocError> for TextError {
     }
 }
 
+/// A copy of a text; an empty one needs no memory.
+pub(crate) fn copied(alloc: Global, text: &str) -> Result<String, AllocError>
+    ensures ok { IfOk result (λ copy. string_bytes copy ≡ text.now) }
+    ensures empty { text.now ≡ [] → IsOk result }
+{
+    let mut copy = String::with_capacity(alloc, text.len())?;
+    copy.push_str(text)?;
+    Ok(copy)
+}
+
 /// A copy of the text that the octets are.
 fn read_utf8(alloc: Global, octets: &[u8]) -> Result<String, NoMemory>
     requires { IsUtf8 octets.now }
@@ -70,7 +80,7 @@ fn read_utf8(alloc: Global, octets: &[u8]) -> Result<String, NoMemory>
 {
     // The octets are UTF-8, as is required.
     let text = unsafe { str::from_utf8_unchecked(octets) };
-    Ok(String::from_str(alloc, text)?)
+    Ok(copied(alloc, text)?)
 }
 
 /// The text that some octets spell.
@@ -177,7 +187,7 @@ impl<'a> TextParts<'a> {
         ensures { IfOk result (StandsForText self.now) }
     {
         let encoding = self.encoding();
-        let language = String::from_str(alloc, self.language())?;
+        let language = copied(alloc, self.language())?;
         let text = read_octets(alloc, encoding, self.octets())?;
         Ok(Text {
             encoding,
@@ -231,8 +241,8 @@ fn push_octets(octets: &mut Bytes, encoding: Encoding, text: &str) -> Result<(),
 }
 
 impl Text {
-    /// A text of copies. `TooLong` comes before `NotAscii`, and `NotAscii` before `NoMemory`. What the
-    /// language code means isn't looked at.
+    /// A text of copies. `TooLong` comes before `NotAscii`, and `NotAscii` before `NoMemory`, which never comes for two
+    /// empty texts. What the language code means isn't looked at.
     pub fn new(
         alloc: Global,
         encoding: Encoding,
@@ -244,6 +254,7 @@ impl Text {
         ensures too_long { IsErrOf result TextError.TooLong ↔ (63 < length language.now) }
         ensures not_ascii { IsErrOf result TextError.NotAscii
             ↔ ((length language.now ≤ 63) × ¬ IsAscii language.now) }
+        ensures empty { language.now ≡ [] → text.now ≡ [] → IsOk result }
     {
         if language.len() > 63 {
             return Err(TextError::TooLong);
@@ -251,8 +262,8 @@ impl Text {
         if !language.is_ascii() {
             return Err(TextError::NotAscii);
         }
-        let language = String::from_str(alloc, language)?;
-        let text = String::from_str(alloc, text)?;
+        let language = copied(alloc, language)?;
+        let text = copied(alloc, text)?;
         Ok(Text {
             encoding,
             language,

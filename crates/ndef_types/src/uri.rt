@@ -4,7 +4,7 @@ ghost use Rattle.std.specs.Cmp.{partial_equiv_from_equiv};
 ghost use Rattle.std.specs.Cmp.Lexicographic.{nat_list_eq_equiv, pointwise};
 ghost use Rattle.std.specs.Cmp.Rules.{hashing};
 ghost use Rattle.std.specs.Hash as fed;
-ghost use Rattle.std.specs.Prelude.{◌≡◌, ◌==◌, ◌<◌, ◌≤◌, ◌^◌, ◌++◌, ◌↔◌, ℕ, List, length, drop, slice_index, IsTrue, IsUtf8, IfOk, IsErrOf};
+ghost use Rattle.std.specs.Prelude.{◌≡◌, ◌==◌, ◌<◌, ◌≤◌, ◌^◌, ◌++◌, ◌↔◌, ℕ, List, [], length, drop, slice_index, IsTrue, IsUtf8, IfOk, IsOk, IsErrOf};
 ghost use Rattle.ndef_format.specs.Uris.{IsUri};
 ghost use Rattle.ndef_format.specs.PayloadReasons.{UriReason};
 ghost use Rattle.ndef_format.specs.declared.profile.Profile.{Profile as Reader};
@@ -15,6 +15,7 @@ ghost use Rattle.ndef_types.specs.Values.{StandsForUri, WritesUri};
 
 use crate::accepting::{MOST, accept};
 use crate::prefixes::{prefix, split};
+use crate::text::copied;
 use crate::{DecodeError, EncodeError};
 use ndef_lang::{Kind, Leaf};
 use ndef_value::{Bytes, NoMemory, Profile, Refusal};
@@ -94,19 +95,21 @@ impl<'a> UriParts<'a> {
     pub fn to_value(&self, alloc: Global) -> Result<Uri, NoMemory>
         ensures { IfOk result (StandsForUri self.now) }
     {
-        let mut text = String::from_str(alloc, prefix(self.code()))?;
+        let mut text = copied(alloc, prefix(self.code()))?;
         text.push_str(self.rest())?;
         Ok(Uri { text })
     }
 }
 
 impl Uri {
-    /// A URI of a copy of the text, or `NoMemory`. What the text means isn't looked at.
+    /// A URI of a copy of the text, or `NoMemory`, which never comes for an empty text. What the text means isn't
+    /// looked at.
     pub fn new(alloc: Global, text: &str) -> Result<Uri, NoMemory>
-        ensures { IfOk result (λ uri. uri ≡ text.now) }
+        ensures ok { IfOk result (λ uri. uri ≡ text.now) }
+        ensures empty { text.now ≡ [] → IsOk result }
     {
         Ok(Uri {
-            text: String::from_str(alloc, text)?,
+            text: copied(alloc, text)?,
         })
     }
 

@@ -3,7 +3,7 @@
 //! The files:
 //!
 //! - `record.rt`, `message.rt`, `name.rt`, `bytes.rt`: records, messages, names and byte strings.
-//! - `limits.rt`: the greatest size of a message.
+//! - `limits.rt`: the greatest size of a message. `no_memory.rt`: the error if memory is used up.
 //! - `laws.rt`: properties of the bytes of messages. The crate ndef_format defines these.
 #![tactic(auto)]
 

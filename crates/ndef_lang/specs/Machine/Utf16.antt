@@ -33,10 +33,6 @@ CompletesUtf16 (Whole little paired) r = SpelledRest little paired r
 CompletesUtf16 (Half little paired a) r = SpelledRest little paired (a ∷ r)
 CompletesUtf16 Refused r = ⊥
 
--- the octets so far of a text
-abbrev pub Utf16Reached : Utf16State → List ℕ → Type 0
-Utf16Reached state s = Continues IsUtf16 (CompletesUtf16 state) s
-
 -- ---- lengths
 
 -- the most significant octet of the first unit of a pair, and of the second

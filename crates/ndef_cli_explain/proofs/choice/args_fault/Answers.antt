@@ -1,8 +1,9 @@
 use Rattle.std.proofs.Common.{map, string_bytes}
+use Rattle.ndef_cli.specs.OptionLaws.{fault_by}
 use Rattle.ndef_cli_explain.specs.CommandLine.{explain_app}
-use Rattle.ndef_cli_explain.proofs.Asking.{explain_is_free, faulty_by}
+use Rattle.ndef_cli_explain.proofs.Asking.{explain_is_free}
 use Rattle.ndef_cli_explain.proofs.choice.args_fault.Goals as goal
 
 pub returns : goal.returns
 returns c =
-    faulty_by _ explain_app (map string_bytes c.args.words.now) c.in-Err.error c.in-Ok.ensures.0 explain_is_free c.in-Err.ensures.kinds
+    fault_by _ explain_app (map string_bytes c.args.words.now) c.in-Err.error c.in-Ok.ensures.0 explain_is_free c.in-Err.ensures.kinds

@@ -2,9 +2,7 @@ use Rattle.std.proofs.Common.{◌≡◌, ℕ, ◌+◌, ◌-◌, ◌∙◌, ap, a
 use Rattle.ndef_fields.specs.Fronts.{content_come}
 use Rattle.ndef_fields.specs.Messages.{version_length}
 use Rattle.ndef_fields.specs.Refusals.{AreWholeBefore}
-use Rattle.ndef_diagnostics.specs.Begun.{through}
-use Rattle.ndef_diagnostics.specs.Expectations.{left_from}
-use Rattle.ndef_diagnostics.proofs.Sames.{same_expected}
+use Rattle.ndef_diagnostics.specs.Expectations.{left_from, nested_expected}
 use Rattle.ndef_diagnostics.proofs.expecting.in_nest.Goals as goal
 
 pub returns : goal.returns
@@ -19,7 +17,6 @@ returns c =
     let left : c.saturating_sub.result + length rest ≡ left_from come rest =
     ap (λ n. n + length rest)
     (c.saturating_sub.ensures ∙ ap₂ (λ n (s : List ℕ). n - length s) c.payload_length.ensures.value c.piece_front.ensures.content) in
-    let same =
-    same_expected c.args.refusal.reason c.args.table (count + 1) (length k.0.pieces + 1) (c.saturating_sub.result + length rest) (left_from come rest)
-    c.through-octets.result.now (through c.args.bytes.now c.args.refusal.at rest) (ap (λ n. n + 1) k.1) left c.through-octets.ensures in
-    (rest, k.0, c.nested_expected.ensures ∙ same)
+    let expected = nested_expected c.args.refusal.reason c.args.table in
+    let number = ap (λ n. expected (n + 1) (c.saturating_sub.result + length rest) c.through-octets.result.now) k.1 in
+    (rest, k.0, c.nested_expected.ensures ∙ number ∙ ap₂ (expected (length k.0.pieces + 1)) left c.through-octets.ensures)

@@ -1,9 +1,6 @@
-use Rattle.std.proofs.Common.{◌≡◌, ◌+◌, ◌≤◌, length}
 use Rattle.ndef_diagnostics.specs.RecordRemarks.{count_carriers}
+use Rattle.ndef_diagnostics.proofs.Counts.{Counted}
 use Rattle.ndef_diagnostics.proofs.handover_remark.count_carriers.Given as goal
 
 abbrev pub invariant-loop-item : goal.invariant-loop-item
-invariant-loop-item l = record {
-  counted : l.count + count_carriers l.item-iterator ≡ count_carriers l.handover.runs;
-  few : l.count + length l.item-iterator ≤ 65535;
-}
+invariant-loop-item l = Counted count_carriers l.count l.item-iterator l.handover.runs

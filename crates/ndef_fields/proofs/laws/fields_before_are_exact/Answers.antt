@@ -3,4 +3,4 @@ use Rattle.ndef_fields.proofs.SoFar.{fronts_are_so_far}
 use Rattle.ndef_fields.proofs.laws.fields_before_are_exact.Goals as goal
 
 pub returns : goal.returns
-returns c = record { one = one_front_report; follow = front_fields_follow; slices = front_fields_are_slices; so_far = fronts_are_so_far c.heads_are_unambiguous.ensures.apart }
+returns c = record { one = one_front_report; follow = front_fields_follow; slices = front_fields_are_slices; so_far = fronts_are_so_far }

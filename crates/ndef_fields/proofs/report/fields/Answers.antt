@@ -1,16 +1,10 @@
-use Rattle.std.proofs.Common.{sym, ◌∙◌, ap, subst, arith, take, map, length-take-le}
+use Rattle.std.proofs.Common.{sym, ◌∙◌, ap, arith, take, map, length-take-le}
 use Rattle.ndef_format.specs.Messages.{all_pieces, run_record}
 use Rattle.ndef_fields.specs.Parts.{placed}
-use Rattle.ndef_fields.specs.Cursors.{AreOuter, fields_in, outer_own, parts_along}
-use Rattle.ndef_fields.proofs.Contents.{outer_parts, outer_is}
-use Rattle.ndef_fields.proofs.Members.{deep_holds, deep_outer, deep_some}
+use Rattle.ndef_fields.specs.Walks.{outer_in}
+use Rattle.ndef_fields.proofs.Members.{deep_holds, deep_some}
+use Rattle.ndef_fields.proofs.Walks.{outer_parts}
 use Rattle.ndef_fields.proofs.report.fields.Goals as goal
-
-pub new-requires : goal.new-requires
-new-requires c =
-    let v = c.in-Ok.ensures.message in
-    let a = deep_outer c.args.limits (map run_record c.in-Ok.view.runs) (take c.in-Ok.view.taken c.args.bytes.now) v.1.0 in
-    subst (λ n. AreOuter (take n c.args.bytes.now)) (sym c.taken-taken.ensures) a
 
 pub returns-in-Ok-clause-reported : goal.returns-in-Ok-clause-reported
 returns-in-Ok-clause-reported c =
@@ -23,9 +17,9 @@ returns-in-Ok-clause-reported c =
         within = v.0;
         items = items;
         accepted = d;
-        parts = parts_along 0 outer_own (all_pieces d.runs) bytes;
+        parts = outer_in bytes;
         spelled = outer_parts (all_pieces d.runs) bytes d.spelling.spelled (deep_holds c.args.limits items bytes d);
-        placed = c.new.ensures ∙ ap (λ n. fields_in (take n c.args.bytes.now)) c.taken-taken.ensures ∙ ap (placed 0) (outer_is (all_pieces d.runs) bytes d.spelling.spelled);
+        placed = c.new.ensures ∙ ap (λ n. placed 0 (outer_in (take n c.args.bytes.now))) c.taken-taken.ensures;
       },
       sym c.taken-taken.ensures,
       v.1.1 ∙ sym c.items.ensures.value,

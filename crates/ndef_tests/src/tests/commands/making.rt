@@ -286,7 +286,7 @@ fn writes_digits_to_a_terminal(rt: HostRuntime) -> Result<(), Fail> {
 #[test]
 fn prints_pages(rt: HostRuntime) -> Result<(), Fail> {
     let alloc = rt.alloc();
-    assert!(rt; writes(alloc, "--version", b"", b"ndef-make 1.0.0\n")?);
+    assert!(rt; writes(alloc, "--version", b"", b"ndef-make 1.1.0.dev\n")?);
     let help = run_line(alloc, "--help", b"")?;
     let begins = help
         .bytes

@@ -1,0 +1,13 @@
+use Rattle.ndef_message.specs.States.{sink_state}
+use Rattle.ndef_cli.specs.OutputLaws.{all_sent, front_sent}
+use Rattle.ndef_cli.proofs.printing.print.Goals as goal
+
+pub returns-in-Ok : goal.returns-in-Ok
+returns-in-Ok g c =
+    all_sent (g.K.Sink.has_failed c.args.sink.now) c.args.text.now c.args.status (sink_state g.K.Sink c.args.sink.now) (sink_state g.K.Sink c.send.new.sink)
+    c.in-Ok.ensures.sent.0 c.in-Ok.ensures.mark.0 c.in-Ok.ensures.mark.1 c.in-Ok.ensures.silent
+
+pub returns-in-Err : goal.returns-in-Err
+returns-in-Err g c =
+    front_sent (g.K.Sink.has_failed c.args.sink.now) c.args.text.now c.args.status (sink_state g.K.Sink c.args.sink.now) (sink_state g.K.Sink c.send.new.sink) _
+    c.in-Err.ensures.sent.0 c.in-Err.ensures.mark c.in-Err.ensures.silent
