@@ -2,8 +2,9 @@
 
 A value is a variable, or stands where it is used if that is one place of the same block. Memory is read and written by
 memcpy alone, so C's rules of aliasing and alignment are kept. A pointer in memory takes 8 bytes on every machine, as in
-the module. What LLVM leaves without a value, C must not leave undefined: a count of bits to shift by is cut to the width
-of the type, and memory of no bytes is not handed to memcpy.
+the module: it is read and written as a number. What LLVM leaves without a value, C must not leave undefined: a count of bits
+to shift by is cut to the width of the type, memory of no bytes is not handed to memcpy, and a sum of pointers is one of
+numbers, unless a load or a store uses it at once (`is_at_once`).
 """
 
 import re
@@ -13,6 +14,7 @@ from module_text import (Array, Cast, Fields, Global, Int, Local, Moved, NO_EFFE
 
 PREFIX = 'nd_'
 DEEPEST = 12  # how deep an expression may be
+STORED = range(40, 400)  # bytes that the fast form sets by stores: gcc takes a slow instruction of the processor for one memset
 OPERATORS = {'add': '+', 'sub': '-', 'mul': '*', 'and': '&', 'or': '|', 'xor': '^', 'udiv': '/', 'urem': '%', 'shl': '<<',
              'lshr': '>>'}
 COMPARED = {'eq': '==', 'ne': '!=', 'ult': '<', 'ule': '<=', 'ugt': '>', 'uge': '>=', 'slt': '<', 'sle': '<=', 'sgt': '>',
@@ -30,20 +32,6 @@ HELPERS = {
     'bswap_i64': '''static uint64_t nd_bswap_i64(uint64_t v) {
     return (uint64_t)nd_bswap_i32((uint32_t)v) << 32 | nd_bswap_i32((uint32_t)(v >> 32));
 }''',
-    'load_ptr': '''#if UINTPTR_MAX == UINT64_MAX
-static unsigned char *nd_load_ptr(const unsigned char *from) { unsigned char *p; nd_memcpy(&p, from, 8); return p; }
-#else
-static unsigned char *nd_load_ptr(const unsigned char *from) { return (unsigned char *)(uintptr_t)nd_load_64(from); }
-#endif''',
-    'store_ptr': '''#if defined(__GNUC__) && __GNUC__ >= 11
-/* It reads no byte at the address, which may be that of memory to be written. */
-__attribute__((access(none, 2))) static void nd_store_ptr(unsigned char *to, const unsigned char *p);
-#endif
-#if UINTPTR_MAX == UINT64_MAX
-static void nd_store_ptr(unsigned char *to, const unsigned char *p) { nd_memcpy(to, &p, 8); }
-#else
-static void nd_store_ptr(unsigned char *to, const unsigned char *p) { nd_store_64(to, (uintptr_t)p); }
-#endif''',
     'load_part': '''static uint64_t nd_load_part(const unsigned char *from, size_t size) {
     uint64_t v = 0;
     nd_memcpy(&v, from, size);
@@ -90,7 +78,7 @@ FOR_WIDTHS = {
 OF_WIDTHS = {name % bits: text.replace('%d', str(bits)) for name, text in FOR_WIDTHS.items() for bits in WIDTHS}
 # Those of pointers call those of numbers, which come first.
 HELPERS = {**OF_WIDTHS, **HELPERS}
-NEEDED = {'load_ptr': ['load_64'], 'store_ptr': ['store_64'], 'bswap_i64': ['bswap_i32']}
+NEEDED = {'bswap_i64': ['bswap_i32']}
 
 
 def stop(why):
@@ -124,6 +112,11 @@ def signed(type_of, text):
     return f'((int64_t)((uint64_t){text} << {places}) >> {places})'
 
 
+def summed(base, sign, count):
+    """An address that may lie outside of the object: C counts on numbers alone there."""
+    return f'((unsigned char *)((uintptr_t){base} {sign} {count}))'
+
+
 def bare(text):
     """An expression without the parentheses around all of it."""
     depth = 0
@@ -137,8 +130,8 @@ def bare(text):
 class Names:
     """The C names of a module's constants, functions and structs, and which helpers its functions need."""
 
-    def __init__(self):
-        self.of = {}
+    def __init__(self, is_fast=False):
+        self.of, self.is_fast = {}, is_fast
         self.taken = {PREFIX + name for name in [*HELPERS, 'stop', 'memcpy', 'memmove', 'memset']}
         self.structs = {}
         self.helpers = set()
@@ -181,13 +174,13 @@ class Names:
         return 'ptr' if isinstance(field, Pointer) else str(width(field))
 
     def value(self, value, type_of):
-        """A value that stands for itself in C."""
+        """A value that is itself in C."""
         if isinstance(value, Number):
             return number(value.value, type_of)
         if isinstance(value, Global):
             return f'({POINTER}){self.of[value.name]}' if value.name in self.of else stop(f'no {value.name}')
         if isinstance(value, Moved):
-            return f'({self.value(value.base, type_of)} + {value.bytes})'
+            return summed(self.value(value.base, type_of), '+-'[value.bytes < 0], abs(value.bytes))
         if isinstance(value, Cast):
             return self.cast(value)
         if isinstance(value, Nothing):
@@ -215,7 +208,7 @@ class Body:
         self.types = {name: type_of for type_of, name in function.parameters}
         self.blocks = without_idle(function.blocks)
         self.lines, self.used = [], set()
-        self.texts, self.depths, self.rooms, self.parts = {}, {}, {}, {}
+        self.texts, self.depths, self.rooms, self.parts, self.sums = {}, {}, {}, {}, {}
         for _, lines in self.blocks:
             for line in lines:
                 if line.result is not None:
@@ -227,6 +220,7 @@ class Body:
         self.folded = set()
         for label, lines in self.blocks:
             self.fold_block(label, lines)
+        self.room_sizes = {line.result: size_of(line.type) for _, lines in self.blocks for line in lines if line.kind == 'alloca'}
 
     # ---- what is known before the first line is written
 
@@ -290,6 +284,8 @@ class Body:
     def binary(self, line):
         type_of, kind = line.type, line.kind
         first, second = self.values(line)
+        if kind == 'add' and type_of == Int(64) and isinstance(line.operands[1], Number):
+            self.sums[line.result] = first, line.operands[1].value
         if kind in ('shl', 'lshr', 'ashr'):
             second = self.places_to_shift(type_of, line.operands[1], second)
         if kind == 'ashr':
@@ -299,8 +295,9 @@ class Body:
         if type_of.bits == 1 and second.startswith('('):
             second = f'(int){second}'  # clang warns of | between two comparisons
         text = f'({first} {OPERATORS[kind]} {second})'
-        is_exact = type_of.bits in (32, 64) or type_of.bits == 1 and kind in ('and', 'or', 'xor')
-        return text if is_exact else cut(type_of, text)
+        if type_of.bits == 1 and kind in ('and', 'or', 'xor'):
+            return f'(uint8_t){text}' if second.startswith('(int)') else text
+        return text if type_of.bits in (32, 64) else cut(type_of, text)
 
     def places_to_shift(self, type_of, count, text):
         """How far to shift: C has no shift by as many bits as the type has, or more."""
@@ -327,34 +324,53 @@ class Body:
         value, = self.values(line)
         kind, wanted = line.kind, line.detail
         if kind == 'inttoptr':
-            return f'({POINTER})(uintptr_t){value}'
+            return self.numbered(line, value)
         if kind in ('ptrtoaddr', 'ptrtoint'):
             return cut(wanted, f'(uintptr_t){value}')
         if kind == 'sext':
             value = f'(0 - (uint64_t){value})' if line.type.bits == 1 else signed(line.type, value)
         return cut(wanted, value) if kind != 'zext' else f'(uint{width(wanted)}_t){value}'
 
-    def element(self, line):
-        """An address that may lie outside of the object is counted as a number: C allows no other way."""
+    def numbered(self, line, text):
+        """A number as an address. A sum with a constant that is used at once is one of pointers."""
+        base, count = self.sums.get(getattr(line.operands[0], 'name', None), (None, 0))
+        if base is None or not self.is_at_once(line.result):
+            return f'({POINTER})(uintptr_t){text}'
+        return f'(({POINTER})(uintptr_t){base} {"+-"[count < 0]} {abs(count)})'
+
+    def element(self, line, at_once):
+        """An address. In memory of this call, or where it is used at once, it is a sum of C's own: so a compiler sees which loads are
+        neighbours."""
         base = self.value(line.operands[0], Pointer())
         size = size_of(line.type)
-        is_within, count_type = line.detail
+        count_type = line.detail
+        is_plain = self.is_in_room(line, size) or at_once
         if isinstance(line.operands[1], Number):
             count = line.operands[1].value * size
             sign, count = '-' if count < 0 else '+', str(abs(count))
         else:
-            word = 'ptrdiff_t' if is_within else 'uintptr_t'
             count = self.value(line.operands[1], count_type)
-            count = f'({word}){count if count_type == Int(64) else signed(count_type, count)}'
-            sign, count = '+', count + (f' * {size}' if size != 1 else '')
-        if is_within:
-            return f'({base} {sign} {count})'
-        return f'((unsigned char *)((uintptr_t){base} {sign} {count}))'
+            count = count if count_type == Int(64) else f'(uint64_t){signed(count_type, count)}'
+            sign, count = '+', f'({count} * {size})' if size != 1 else count
+            count = f'({"ptrdiff_t" if is_plain else "uintptr_t"}){count}'
+        return f'({base} {sign} {count})' if is_plain else summed(base, sign, count)
+
+    def is_in_room(self, line, size):
+        base, count = line.operands
+        return isinstance(count, Number) and isinstance(base, Local) and 0 <= count.value * size <= self.room_sizes.get(base.name, -1)
+
+    def is_at_once(self, name):
+        """Whether an address is used by a load, a store or a copy of some bytes, which ends the program where it lies outside."""
+        if name not in self.folded:
+            return False
+        label, at = self.places[name][0]
+        user = dict(self.blocks)[label][at]
+        if user.kind == 'call':
+            return user.detail[0].startswith('llvm.mem') and isinstance(user.operands[2], Number) and user.operands[2].value > 0
+        return user.kind == 'load' or user.kind == 'store' and user.operands[0] != Local(name)
 
     def loaded(self, line):
         pointer = self.value(line.operands[0], Pointer())
-        if isinstance(line.type, Pointer):
-            return f'{self.names.help("load_ptr")}({pointer})'
         if not isinstance(line.type, Int):
             stop(f'a load: {line.line}')
         if line.type.bits not in WIDTHS and line.type.bits > 8:
@@ -390,7 +406,7 @@ class Body:
         if line.kind == 'select':
             return self.select(line)
         if line.kind == 'getelementptr':
-            return self.element(line)
+            return self.element(line, self.is_at_once(line.result))
         if line.kind == 'extractvalue':
             return f'{self.values(line)[0]}.f{line.detail}'
         if line.kind == 'insertvalue':
@@ -435,12 +451,15 @@ class Body:
 
     def evaluated(self, line):
         depth = 1 + max([self.depths.get(name, 0) for name in locals_of(line.operands)], default=0)
+        if depth >= DEEPEST:
+            self.folded.discard(line.result)
         text = self.expression(line)
-        if line.result in self.folded and depth < DEEPEST:
+        if line.result in self.folded:
             self.texts[line.result], self.depths[line.result] = text, depth
         else:
             self.parts.pop(line.result, None)
-            self.set(line.result, text)
+            self.sums.pop(line.result, None)
+            self.set(line.result, f'(uint8_t){text}' if line.kind in OPERATORS and line.type == Int(1) else text)
 
     def room_for(self, line):
         if line.detail > 8:
@@ -451,9 +470,7 @@ class Body:
 
     def stored(self, line):
         value, pointer = self.value(line.operands[0], line.type), self.value(line.operands[1], Pointer())
-        if isinstance(line.type, Pointer):
-            self.say(f'{self.names.help("store_ptr")}({pointer}, {value});')
-        elif isinstance(line.type, Int) and line.type.bits not in WIDTHS and line.type.bits > 8:
+        if isinstance(line.type, Int) and line.type.bits not in WIDTHS and line.type.bits > 8:
             self.say(f'{self.names.help("store_part")}({pointer}, {value}, {(line.type.bits + 7) // 8});')
         elif isinstance(line.type, Int):
             self.say(f'{self.names.help(f"store_{width(line.type)}")}({pointer}, {value});')
@@ -490,8 +507,12 @@ class Body:
         if line.operands[3] != Number(0):
             stop('volatile memory')
         if isinstance(line.operands[2], Number):
-            if line.operands[2].value:
-                self.say(f'{PREFIX}{kind}({to}, {other}, {line.operands[2].value});')
+            count = line.operands[2].value
+            is_room = line.operands[0] in map(Local, self.rooms)
+            each = 16 if self.names.is_fast and is_room and kind == 'memset' and count in STORED else count
+            for at in range(0, count, each or 1):
+                place = f'({to} + {at})' if at else to
+                self.say(f'{PREFIX}{kind}({place}, {other}, {min(each, count - at)});')
         else:
             helper = {'memcpy': 'copy', 'memmove': 'move', 'memset': 'fill'}[kind]
             self.say(f'{self.names.help(helper)}({to}, {other}, {size});')

@@ -312,13 +312,13 @@ class Line:
         if kind in CASTS:
             return self.cast()
         readers = {'icmp': self.compare, 'freeze': self.one, 'select': self.select, 'load': self.load,
-                   'store': self.store, 'getelementptr': None, 'alloca': self.alloca,
+                   'store': self.store, 'getelementptr': self.element, 'alloca': self.alloca,
                    'extractvalue': self.extract, 'insertvalue': self.insert, 'phi': self.phi, 'call': self.call,
                    'br': self.branch, 'switch': self.switch, 'ret': self.ret, 'unreachable': self.nothing}
         if kind not in readers:
             self.stop(f'unknown instruction `{kind}`')
-        flags = self.skip(FLAGS)
-        return self.element('inbounds' in flags) if kind == 'getelementptr' else readers[kind]()
+        self.skip(FLAGS)
+        return readers[kind]()
 
     def nothing(self):
         return Void(), [], None
@@ -369,15 +369,14 @@ class Line:
         pointer = self.typed()[1]
         return type_of, [value, pointer], self.align()
 
-    def element(self, is_within):
-        """An address, counted on in elements of the type. The detail is whether it stays within one object, and the type
-        of the count."""
+    def element(self):
+        """An address, counted on in elements of the type. The detail is the type of the count."""
         type_of = self.type()
         self.expect(',')
         base = self.typed()[1]
         self.expect(',')
         count_type, count = self.typed()
-        return type_of, [base, count], (is_within, count_type)
+        return type_of, [base, count], count_type
 
     def alloca(self):
         """The detail is the alignment."""

@@ -1,7 +1,8 @@
 #!/usr/bin/env python3
-"""ports/translate.py IN.ll INCLUDE TREE OUT.c: writes the LLVM module of the library for C as one C99 file, whose calls are
-those that the headers ndef*.h in the folder INCLUDE declare. TREE is the hash of the crates (packaging/tree_hash). It stops at
-anything it doesn't know, with the line of the module. test/translate/run tests it."""
+"""ports/translate.py IN.ll INCLUDE TREE OUT.c [fast]: writes the LLVM module of the library for C as one C99 file, whose calls are
+those that the headers ndef*.h in the folder INCLUDE declare. TREE is the hash of the crates (packaging/tree_hash).
+`fast` asks for stores where a memset is slower. It stops at anything it doesn't know, with the line of the module.
+test/readback/run tests it."""
 
 import os
 import pathlib
@@ -13,14 +14,17 @@ from module_text import Array, Bytes, Fields, Int, Moved, Nothing, Number, Point
 
 WIDE = 100  # numbers to a line of an array
 HEAD = '''/* The library of Simbegyor for C, in one file of C99: ndef.h documents its calls. Compile it with your program, with
- * ndef.h and ndef_names.h beside it; of the C library it needs memcpy, memmove and memset alone. ndef.c is the fast form of
- * the library, and ndef_small.c the small one: take one of the two.
+ * ndef.h beside it; of the C library it needs only memcpy, memmove and memset. ndef.c is the fast form of the library, and
+ * ndef_small.c the small one: take one of the two.
  *
  * Made by `make amalgamation` of the crates with the hash {tree}
  * (packaging/tree_hash prints that of a checkout). The crates are proved. This file is their LLVM module, optimised by
- * clang and translated by ports/translate.py: that is tested, and not proved.
+ * clang and translated by ports/translate.py. test/readback/readback.py has read it back: each function does what the module's does.
  *
  * License: MIT or Apache-2.0, as the project's. */
+/* A null pointer is left to the code: no compiler takes a test of one away. */
+#define NDEF_NEEDS(...)
+#define NDEF_ANSWERS(...)
 #include "ndef.h"
 #include <limits.h>
 #include <stddef.h>
@@ -171,7 +175,7 @@ def calls_of(include):
     """The calls that the headers declare: name, result and parameters."""
     text = ''.join(path.read_text(encoding='utf-8') for path in sorted(pathlib.Path(include).glob('ndef*.h')))
     calls = {}
-    for result, name, parameters in re.findall(r'^(uint32_t|void) (ndef_\w+)\((.*?)\);', text, re.M | re.S):
+    for result, name, parameters in re.findall(r'^(uint32_t|void) (ndef_\w+)\(([^()]*)\)[^;]*;', text, re.M):
         given = [one.strip() for one in parameters.split(',') if one.strip() != 'void']
         split = [re.fullmatch(r'(.*?)(\w+)', one, re.S) for one in given]
         calls[name] = (result, ' '.join(parameters.split()), [(match[1].strip(), match[2]) for match in split])
@@ -198,10 +202,10 @@ def call_text(names, function, calls):
     return f'\n{result} {function.name}({parameters}) {{\n    {says}{names.of[function.name]}({given});\n}}\n'
 
 
-def translated(text, include, tree, name):
+def translated(text, include, tree, name, is_fast=False):
     constants, functions, _ = module(text)
     constants.sort(key=has_pointers)  # what a pointer leads to comes before it
-    names = Names()
+    names = Names(is_fast)
     known = [(named(names, constant), constant) for constant in constants]
     for function in functions:
         names.add(function.name, function.name)
@@ -220,13 +224,13 @@ def translated(text, include, tree, name):
 
 
 def main(words):
-    if len(words) != 4:
+    if len(words) != 4 and words[4:] != ['fast']:
         stop(__doc__)
-    source, include, tree, to = words
+    source, include, tree, to = words[:4]
     with open(source, encoding='utf-8') as file:
         text = file.read()
     try:
-        made = translated(text, include, tree, os.path.basename(to))
+        made = translated(text, include, tree, os.path.basename(to), len(words) == 5)
     except Unknown as unknown:
         stop(unknown)
     with open(to + '.part', 'w', encoding='utf-8') as file:

@@ -9,7 +9,7 @@ from .laws import drop_laws
 from .lexer import is_code, lex, nxt, cut, report, txt
 from .rules import (check_unsafe, derive_clone, derive_more, drop_attributes, drop_drop, drop_ghosts, drop_impls_of_model,
                     nest_let_chains, rewrite_fmt, rewrite_listed)
-from .uses import CRATES, HOME, LEFT_OUT, add_prelude, drop_unused_uses, drop_uses, find_traits, rewrite_paths, write_lib
+from .uses import CRATES, HOME, drop_unused_uses, drop_uses, find_traits, is_left_out, rewrite_paths, write_lib
 
 ROOT = '''// Written by ports/erase: do not edit.
 //! The proved text, its contracts taken out. Each file names the one of `crates/` that it comes of, where the contract of each function
@@ -59,7 +59,7 @@ def erased(source):
     for crate in CRATES:
         for name in sorted(os.listdir(os.path.join(source, crate, "src"))):
             base, ending = os.path.splitext(name)
-            if ending == ".rt" and (crate, base) not in LEFT_OUT:
+            if ending == ".rt" and not is_left_out(crate, base):
                 report.where = f"{crate}/{base}"
                 files[crate, base] = read(source, crate, base)
     drop_laws(files)
@@ -67,12 +67,12 @@ def erased(source):
         report.where = f"{crate}/{base}"
         drop_unused_uses(ts)
     drop_empty(files)
-    memory.gate(files)
+    memory.drop_allocating(files)
     for (crate, base), ts in files.items():
         report.where = f"{crate}/{base}"
+        drop_unused_uses(ts)
         words.rewrite(source, files, crate, ts)
         rewrite_paths(ts, crate)
-        add_prelude(ts)
     return files
 
 
@@ -85,4 +85,4 @@ def erase(source, out):
         with open(os.path.join(out, crate, ("mod" if base == "lib" else base) + ".rs"), "w", encoding="utf-8") as file:
             file.write(head + "".join(t.text for t in ts).strip() + "\n")
     with open(os.path.join(out, "mod.rs"), "w", encoding="utf-8") as file:
-        file.write(ROOT + "".join(f"pub(crate) mod {name};\n" for name in sorted(CRATES + ["shim"])))
+        file.write(ROOT + "".join(f"pub(crate) mod {name};\n" for name in sorted(CRATES)) + '#[path = "../shim.rs"]\npub(crate) mod shim;\n')

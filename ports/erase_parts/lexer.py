@@ -67,11 +67,11 @@ GHOST = re.compile(r"ghost\s+[^\s:={]+\s*[:=]\s*(?=\{)")
 
 def lex(text):
     """Tokens of a file; each ghost item and each clause is one token of kind 'ghost'."""
-    out, at, behind = [], 0, None
+    out, at, last = [], 0, None
     while at < len(text):
         end = None
         word = re.compile(r"(ghost|requires|ensures)\b").match(text, at)
-        if word and not (behind and (behind[-1].isalnum() or behind[-1] in "_.")):
+        if word and not (last and (last[-1].isalnum() or last[-1] in "_.")):
             if m := GHOST_USE.match(text, at):
                 end = m.end()
             elif m := GHOST.match(text, at):
@@ -88,7 +88,7 @@ def lex(text):
             m = LEX.match(text, at)
             end = m.end()
             out.append(Tok(m.lastgroup, m.group()))
-        behind = text[at:end]
+        last = text[at:end]
         at = end
     return out
 

@@ -1,16 +1,15 @@
-"""What allocates gets `#[cfg(feature = "alloc")]`.
+"""What allocates is left out: the Rust crate reads bytes where they lie.
 
 An item allocates where it names what stands for memory, or an item that does; a function of an impl too, each by itself. In Rattle what
 allocates is given the allocator, so no call of a method hides it: its caller names `Global`, or holds what does."""
 from __future__ import annotations
 
-from .lexer import close, is_code, lex, note, nxt, prv, report, txt
+from .lexer import close, cut, is_code, lex, note, nxt, prv, report, txt
 from .uses import CRATES, split_use
 
 MEMORY = {"Global", "AllocError", "AllocFailed", "FromUtf16Error", "Vec", "String", "BTreeMap", "Box", "SmallVec"}
 KINDS = ("fn", "struct", "enum", "trait", "impl", "use", "const", "type", "mod")
 BEFORE = ("pub", "const", "unsafe", "extern")
-GATE = '#[cfg(feature = "alloc")]'
 
 
 class Item:
@@ -130,35 +129,26 @@ def find(files):
     return gated, scopes
 
 
-def put_gate(ts, at):
-    """The gate before the item at a place, in a line of its own."""
-    before = ts[at - 1].text if at and ts[at - 1].kind == "space" else "\n"
-    indent = before.rsplit("\n", 1)[-1]
-    ts[at:at] = lex(f"{GATE}\n{indent}")
-
-
-def split_names(ts, item, crate, gated):
-    """A `use` item of names that allocate and of others becomes two."""
+def drop_names(ts, item, crate, gated):
+    """A `use` item without the names that allocate."""
     path, names = imported(ts, item.end, item.at)
     of = path[0] if path[0] in CRATES else crate
-    told = [n for n in names if n.split()[0] in MEMORY or (of, n.split()[0]) in gated]
-    if not told:
+    kept = [n for n in names if n.split()[0] not in MEMORY and (of, n.split()[0]) not in gated]
+    if len(kept) == len(names):
         return
-    note("gate of a use", " ".join(told))
-    kept = [n for n in names if n not in told]
+    note("use of what allocates", " ".join(sorted(set(names) - set(kept))))
+    if not kept:
+        cut(ts, item.start, item.end, "use of what allocates", comments=False)
+        return
     head = "".join(t.text for t in ts[item.start:item.at])
-
-    def line(which):
-        last = which[0] if len(which) == 1 else f"{{{', '.join(which)}}}"
-        return f"{head}use {''.join(path)}{last};"
-    ts[item.start:item.end + 1] = lex(f"{GATE}\n{line(told)}" + (f"\n{line(kept)}" if kept else ""))
+    last = kept[0] if len(kept) == 1 else f"{{{', '.join(kept)}}}"
+    ts[item.start:item.end + 1] = lex(f"{head}use {''.join(path)}{last};")
 
 
-def gate_parts(scope, ts, item, gated):
+def drop_parts(scope, ts, item, gated):
     for part in reversed(list(items(ts, item.brace, item.end))):
         if scope.names(ts, part.at, part.end, gated):
-            note("gate of a function", part.name)
-            put_gate(ts, part.start)
+            cut(ts, part.start, part.end, "function that allocates")
 
 
 def is_whole(scope, ts, gated):
@@ -167,21 +157,20 @@ def is_whole(scope, ts, gated):
     return bool(own) and all(allocates(scope, ts, item, gated) for item in own)
 
 
-def gate(files):
-    """Writes the gates."""
+def drop_allocating(files):
+    """Drops what allocates."""
     gated, scopes = find(files)
     whole = {key for key, ts in files.items() if key[1] != "lib" and is_whole(scopes[key], ts, gated)}
     for key, ts in files.items():
         report.where = "/".join(key)
         for item in [] if key in whole else reversed(list(items(ts, -1, len(ts)))):
             if item.kind == "mod" and (key[0], item.name) in whole:
-                note("gate of a file", item.name)
-                put_gate(ts, item.start)
+                cut(ts, item.start, item.end, "file that allocates", comments=False)
             elif item.kind == "use":
-                split_names(ts, item, key[0], gated)
+                drop_names(ts, item, key[0], gated)
             elif allocates(scopes[key], ts, item, gated):
-                note("gate of an item", item.name)
-                put_gate(ts, item.start)
+                cut(ts, item.start, item.end, "item that allocates")
             elif item.kind in ("impl", "trait") and item.brace:
-                gate_parts(scopes[key], ts, item, gated)
-    return gated
+                drop_parts(scopes[key], ts, item, gated)
+    for key in whole:
+        del files[key]

@@ -216,12 +216,12 @@ def derive_more(ts):
 
 def chained(ts, i):
     """The place of the `&&` by which the condition of the `if let` at i goes on, if it does, and the brace of the body."""
-    told, j = None, nxt(ts, i)
+    chain, j = None, nxt(ts, i)
     while txt(ts, j) != "{":
-        if txt(ts, j) == "&&" and told is None:
-            told = j
+        if txt(ts, j) == "&&" and chain is None:
+            chain = j
         j = nxt(ts, close(ts, j)) if txt(ts, j) in ("(", "[") else nxt(ts, j)
-    return told, j
+    return chain, j
 
 
 def nest_let_chains(ts):
@@ -229,12 +229,12 @@ def nest_let_chains(ts):
     for i in reversed(range(len(ts))):
         if ts[i].text != "if" or txt(ts, nxt(ts, i)) != "let":
             continue
-        told, brace = chained(ts, i)
-        if told is None:
+        chain, brace = chained(ts, i)
+        if chain is None:
             continue
         end = close(ts, brace)
         if txt(ts, nxt(ts, end)) == "else" or txt(ts, prv(ts, i)) == "else":
             raise SystemExit(f"{report.where}: a chain of lets with an else")
         note("chain of lets", "".join(t.text for t in ts[i:brace]))
         ts[end + 1:end + 1] = lex(" }")
-        ts[told:told + 1] = lex("{ if")
+        ts[chain:chain + 1] = lex("{ if")

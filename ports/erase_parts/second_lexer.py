@@ -1,5 +1,5 @@
 """A second lexer, which knows nothing of the first: compares the code tokens of the proved files with those that were written, before
-rustfmt, and lists each kind of difference with its count: `- gone`, `+ come`. The list is read, kept, and compared.
+rustfmt, and lists of each file the kinds of difference with their counts: `- gone`, `+ come`. The list is read, kept, and compared.
 
 Of the source it leaves out `ghost ..;`, `requires {..}`, `ensures {..}`; nothing else."""
 from __future__ import annotations
@@ -8,6 +8,8 @@ import collections
 import difflib
 import os
 import re
+
+from .uses import is_left_out
 
 TOKEN = re.compile(r'//[^\n]*|b?"(?:\\.|[^"\\])*"|b?\'(?:\\x..|\\.|[^\'\\])\'|\'?\w+|::|->|=>|&&|\|\||\.\.=?|\S', re.S)
 
@@ -55,7 +57,7 @@ def compared(crates, made, crate, name, kinds):
     path = os.path.join(made, crate, 'mod.rs' if name == 'lib.rt' else name[:-3] + '.rs')
     if not os.path.exists(path):
         # A file that is gone has only what is erased: its text is shown whole.
-        kinds[f'{crate}/{name} - ' + ' '.join(source)[:3000]] += 1
+        kinds['- ' + ' '.join(source)[:3000]] += 1
         return len(source), 0
     same, written = 0, tokens(read(path), False)
     for what, a, b, c, d in difflib.SequenceMatcher(None, source, written, autojunk=False).get_opcodes():
@@ -67,12 +69,13 @@ def compared(crates, made, crate, name, kinds):
 
 
 def differences(crates, made):
-    """The list: each kind of difference with its count, the most frequent first."""
-    kinds, counts = collections.Counter(), []
+    """The list: of each file the kinds of difference with their counts, the most frequent first."""
+    lines, counts = [], []
     for crate in sorted(name for name in os.listdir(made) if os.path.isdir(os.path.join(made, name))):
-        for name in sorted(os.listdir(os.path.join(crates, crate, 'src'))):
-            counts.append(compared(crates, made, crate, name, kinds))
-    lines = [f'{count:5} {kind}' for kind, count in sorted(kinds.items(), key=lambda it: (-it[1], it[0]))]
-    lines.append(f'{sum(a for a, _ in counts)} tokens of code in the source, {sum(b for _, b in counts)} of them in their places; '
-                 f'{len(kinds)} kinds of difference, {sum(kinds.values())} differences')
+        names = os.listdir(os.path.join(crates, crate, 'src'))
+        for name in sorted(name for name in names if not is_left_out(crate, name[:-3])):
+            kinds = collections.Counter()
+            counts.append((*compared(crates, made, crate, name, kinds), kinds.total()))
+            lines += [f'{crate}/{name}', *(f'{count:5} {kind}' for kind, count in sorted(kinds.items(), key=lambda it: (-it[1], it[0])))]
+    lines.append('{} tokens of code in the source, {} of them in their places; {} differences'.format(*map(sum, zip(*counts))))
     return '\n'.join(lines) + '\n'

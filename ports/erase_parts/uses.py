@@ -7,8 +7,30 @@ CRATES = ["ndef_format", "ndef_value", "ndef_piece", "ndef_lang", "ndef_nest", "
           "ndef_fields", "ndef_diagnostics", "ndef_c"]
 # The module of the Rust crate that holds what is written.
 HOME = "proved"
-# Files over std's readers and writers: they need std, and their Rattle forms are those of Rattle's own std::io.
-LEFT_OUT = {("ndef_message", "std_source"), ("ndef_message", "std_sink")}
+# Files over std's readers and writers, which need Rattle's own std::io.
+NEEDS_STD = {("ndef_message", "std_source"), ("ndef_message", "std_sink")}
+# Files that the Rust crate doesn't need.
+LEFT_OUT = {
+    "ndef_message": {"encoder", "encoding", "endless_source", "failing_sink", "failing_source", "input", "message_reading", "sending", "sink",
+                     "slice_source", "writing"},
+    "ndef_types": {"build_error", "builder", "ids", "link", "nested"},
+}
+# Of the calls for C those that write payloads without memory, and what they need.
+ONLY = {"ndef_c": {"lib", "alternative", "alternative_writing", "buffer", "carrier", "checking", "content", "error_writing", "handover_writing",
+                   "limits", "numbers", "out", "part", "references", "refusal", "status", "text", "uri", "utf16"}}
+
+
+class Wanted:
+    """Whether all files are wanted, or only those that the Rust crate needs."""
+
+    whole = False
+
+
+def is_left_out(crate, base):
+    if Wanted.whole:
+        return (crate, base) in NEEDS_STD
+    return (crate, base) in NEEDS_STD or base in LEFT_OUT.get(crate, ()) or base not in ONLY.get(crate, {base})
+
 
 
 def drop_unused_uses(ts):
@@ -103,35 +125,15 @@ def drop_uses(ts):
 
 def write_lib(ts, crate):
     """Drops the `mod` and `pub use` of the files that are left out."""
-    for c, m in LEFT_OUT:
-        if c != crate:
-            continue
-        i = 0
-        while i < len(ts):
-            if ts[i].text == "mod" and txt(ts, nxt(ts, i)) == m:
-                i = cut(ts, i, nxt(ts, nxt(ts, i)), "file left out", comments=False)
-                continue
-            if ts[i].text == "pub" and txt(ts, nxt(ts, i)) == "use" and txt(ts, nxt(ts, nxt(ts, i))) == m:
-                i = cut(ts, i, split_use(ts, i), "file left out", comments=False)
-                continue
-            i += 1
-
-
-PRELUDE = ["Vec", "String", "Box"]
-
-
-def add_prelude(ts):
-    """Rattle's Vec and String are in scope everywhere."""
-    used = sorted({t.text for t in ts if t.kind == "word" and t.text in PRELUDE})
-    if not used:
-        return
-    note("use of the shim's prelude", " ".join(used))
-    line = f'#[cfg(feature = "alloc")]\nuse crate::{HOME}::shim::{{{", ".join(used)}}};\n'
-    # Before the first item, behind the //! lines.
     i = 0
-    while i < len(ts) and (ts[i].kind == "space" or ts[i].text.startswith("//!")):
+    while i < len(ts):
+        if ts[i].text == "mod" and is_left_out(crate, txt(ts, nxt(ts, i))):
+            i = cut(ts, i, nxt(ts, nxt(ts, i)), "file left out", comments=False)
+            continue
+        if ts[i].text == "pub" and txt(ts, nxt(ts, i)) == "use" and is_left_out(crate, txt(ts, nxt(ts, nxt(ts, i)))):
+            i = cut(ts, i, split_use(ts, i), "file left out", comments=False)
+            continue
         i += 1
-    ts[i:i] = lex(line)
 
 
 def functions(ts):

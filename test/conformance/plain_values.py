@@ -133,12 +133,12 @@ class Values:
         records, _ = self.reader.message(message, None)
         found = [record for record in records if record.format == 1 and record.type in (b'Hr', b'Hs')]
         ids = [record.id for record in records]
-        told = []
+        links = []
         for record in self.records(found[-1 if self.without == 'link-first' else 0].payload[1:]) if found else ():
             if (record.format, record.type) == (1, b'ac'):
                 reference = record.payload[2:2 + record.payload[1]]
-                told.append(f'{record.payload[0] & 3} {hexadecimal(reference)} {self.linked(ids, reference)}')
-        return ', '.join(told) or 'none'
+                links.append(f'{record.payload[0] & 3} {hexadecimal(reference)} {self.linked(ids, reference)}')
+        return ', '.join(links) or 'none'
 
     def linked(self, ids, reference):
         """The number of the record with this id, from 1."""
