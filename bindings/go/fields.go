@@ -48,7 +48,7 @@ type Link struct {
 
 // Links returns the links of the handover request or select that is the record with this index, in the order of its
 // alternative carriers. ErrPlace is the error where the record is neither.
-func (message *Message) Links(handover int) ([]Link, error) {
+func (message Message) Links(handover int) ([]Link, error) {
 	if handover < 0 || handover >= len(message.Records) || !message.Records[handover].Kind().isHandover() {
 		return nil, ErrPlace
 	}

@@ -151,9 +151,9 @@ func (carrier *HandoverCarrier) Record() (Record, error) {
 		})
 }
 
-// laid are alternative carriers as ndef.h takes them: references on a shelf, and which of them are a carrier's.
+// laid are alternative carriers as ndef.h takes them: references in an arena, and which of them are a carrier's.
 type laid struct {
-	shelf
+	arena
 	references   []C.ndef_part
 	alternatives []C.ndef_alternative_writing
 }

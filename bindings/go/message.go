@@ -114,35 +114,35 @@ func (options Options) ParsePrefix(bytes []byte) (*Message, int, error) {
 		}
 		return &Message{Records: recordsOf(append([]byte(nil), bytes[:length]...))}, length, nil
 	}
-	desk := taken()
-	defer desk.putBack()
-	desk.limits = options.limits()
-	status := desk.fill(bytes)
+	scratch := taken()
+	defer scratch.putBack()
+	scratch.limits = options.limits()
+	status := scratch.fill(bytes)
 	if status == C.NDEF_BUFFER_TOO_SMALL {
-		desk.items = make([]C.ndef_item, desk.found.records)
-		status = desk.fill(bytes)
+		scratch.items = make([]C.ndef_item, scratch.found.records)
+		status = scratch.fill(bytes)
 	}
 	if status != C.NDEF_OK {
-		return nil, 0, desk.wrong(status)
+		return nil, 0, scratch.wrong(status)
 	}
-	length := int(desk.found.place)
-	return &Message{Records: desk.recordsOf(append([]byte(nil), bytes[:length]...))}, length, nil
+	length := int(scratch.found.place)
+	return &Message{Records: scratch.recordsOf(append([]byte(nil), bytes[:length]...))}, length, nil
 }
 
 // Check returns the length of the message that the bytes begin with, and the number of its records. It allocates
 // nothing where they do. The error is a *Refusal or ErrLimits.
 func (options Options) Check(bytes []byte) (length, records int, err error) {
-	desk := taken()
-	defer desk.putBack()
-	desk.limits = options.limits()
-	if status := C.ndef_check(first(bytes), size(bytes), &desk.limits, &desk.found); status != C.NDEF_OK {
-		return 0, 0, desk.wrong(status)
+	scratch := taken()
+	defer scratch.putBack()
+	scratch.limits = options.limits()
+	if status := C.ndef_check(first(bytes), size(bytes), &scratch.limits, &scratch.found); status != C.NDEF_OK {
+		return 0, 0, scratch.wrong(status)
 	}
-	return int(desk.found.place), int(desk.found.records), nil
+	return int(scratch.found.place), int(scratch.found.records), nil
 }
 
-// A desk is what a check is given and what it finds. A call of C makes what it is given escape, so desks are kept.
-type desk struct {
+// A scratch is what a check is given and what it finds. A call of C makes what it is given escape, so a pool keeps some.
+type scratch struct {
 	limits C.ndef_limits
 	found  C.ndef_checked
 	items  []C.ndef_item
@@ -153,34 +153,34 @@ const (
 	mostItems = 1024 // that are kept
 )
 
-var desks = sync.Pool{New: func() any { return &desk{items: make([]C.ndef_item, fewItems)} }}
+var pool = sync.Pool{New: func() any { return &scratch{items: make([]C.ndef_item, fewItems)} }}
 
-func taken() *desk { return desks.Get().(*desk) }
+func taken() *scratch { return pool.Get().(*scratch) }
 
-func (desk *desk) putBack() {
-	if len(desk.items) <= mostItems {
-		desks.Put(desk)
+func (scratch *scratch) putBack() {
+	if len(scratch.items) <= mostItems {
+		pool.Put(scratch)
 	}
 }
 
 // fill checks the bytes, and gives the items of their records where there are enough.
-func (desk *desk) fill(bytes []byte) C.uint32_t {
-	return C.ndef_items(first(bytes), size(bytes), &desk.limits, &desk.found, &desk.items[0], C.ndef_size(len(desk.items)))
+func (scratch *scratch) fill(bytes []byte) C.uint32_t {
+	return C.ndef_items(first(bytes), size(bytes), &scratch.limits, &scratch.found, &scratch.items[0], C.ndef_size(len(scratch.items)))
 }
 
 // wrong is the error for a check that doesn't find a message.
-func (desk *desk) wrong(status C.uint32_t) error {
+func (scratch *scratch) wrong(status C.uint32_t) error {
 	if status == C.NDEF_REFUSED {
-		return refused(&desk.found)
+		return refused(&scratch.found)
 	}
 	return ErrLimits
 }
 
 // recordsOf returns the records of the message, which the items describe.
-func (desk *desk) recordsOf(message []byte) []Record {
-	records := make([]Record, desk.found.records)
+func (scratch *scratch) recordsOf(message []byte) []Record {
+	records := make([]Record, scratch.found.records)
 	for index := range records {
-		item, record := &desk.items[index], &records[index]
+		item, record := &scratch.items[index], &records[index]
 		id := item.payload_at - item.id_length
 		record.TNF = TNF(item.tnf)
 		record.Type = string(message[item.type_at : item.type_at+item.type_length])

@@ -9,9 +9,9 @@ import (
 	"testing"
 )
 
-// moduleAlone copies the files of the module to a folder of their own, as a module zip has them: no links, and nothing from
+// copiedModule copies the files of the module to a folder of their own, as a module zip has them: no links, and nothing from
 // outside of the folder.
-func moduleAlone(t *testing.T) string {
+func copiedModule(t *testing.T) string {
 	folder := t.TempDir()
 	files, err := os.ReadDir(".")
 	if err != nil {
@@ -41,12 +41,12 @@ func run(folder string, words ...string) (string, error) {
 	return string(said), err
 }
 
-// A program in another module builds of the vendored package, and of one whose ndef.c has changed it is built anew.
+// A program in another module builds of the vendored package, and of one whose ndef.c has changed it is built again.
 func TestModuleIsWhole(t *testing.T) {
 	if testing.Short() {
 		t.Skip("it compiles the library")
 	}
-	module, program := moduleAlone(t), t.TempDir()
+	module, program := copiedModule(t), t.TempDir()
 	source := "package main\n\nimport (\n\t\"fmt\"\n\t\"simbegyor/ndef\"\n)\n\nfunc main() { fmt.Println(ndef.Parse([]byte{0xD0, 0, 0})) }\n"
 	if err := os.WriteFile(filepath.Join(program, "main.go"), []byte(source), 0o666); err != nil {
 		t.Fatal(err)

@@ -167,7 +167,7 @@ func titlesOf(payload []byte) ([]Text, error) {
 }
 
 // Title returns the first title in a language, such as "en", in upper or lower case.
-func (poster *SmartPoster) Title(language string) (Text, bool) {
+func (poster SmartPoster) Title(language string) (Text, bool) {
 	for _, title := range poster.Titles {
 		if len(title.Language) == len(language) && strings.EqualFold(title.Language, language) {
 			return title, true
@@ -189,20 +189,20 @@ func iconsOf(payload []byte) []Icon {
 	return icons
 }
 
-// A shelf holds parts for calls that take offsets within an array of bytes.
-type shelf struct{ bytes []byte }
+// An arena holds parts for calls that take offsets within an array of bytes.
+type arena struct{ bytes []byte }
 
-func (shelf *shelf) put(text string) C.ndef_part {
-	part := C.ndef_part{at: size(shelf.bytes), length: C.ndef_size(len(text))}
-	shelf.bytes = append(shelf.bytes, text...)
+func (arena *arena) put(text string) C.ndef_part {
+	part := C.ndef_part{at: size(arena.bytes), length: C.ndef_size(len(text))}
+	arena.bytes = append(arena.bytes, text...)
 	return part
 }
 
 // Record makes the record of the smart poster: of the URI, the titles, the action, the size, the media type and the
 // icons, in this order.
-func (poster *SmartPoster) Record() (Record, error) {
-	var shelf shelf
-	how := C.ndef_poster_writing{uri: shelf.put(string(poster.URI))}
+func (poster SmartPoster) Record() (Record, error) {
+	var arena arena
+	how := C.ndef_poster_writing{uri: arena.put(string(poster.URI))}
 	if poster.Action != nil {
 		how.has_action, how.action = 1, C.uint32_t(*poster.Action)
 	}
@@ -210,20 +210,20 @@ func (poster *SmartPoster) Record() (Record, error) {
 		how.has_size, how.size = 1, C.uint32_t(*poster.Size)
 	}
 	if poster.MediaType != nil {
-		how.has_media_type, how.media_type = 1, shelf.put(*poster.MediaType)
+		how.has_media_type, how.media_type = 1, arena.put(*poster.MediaType)
 	}
 	titles := make([]C.ndef_title_writing, len(poster.Titles))
 	for index, title := range poster.Titles {
-		titles[index] = C.ndef_title_writing{language: shelf.put(title.Language), text: shelf.put(title.Text), utf16: flag(title.UTF16)}
+		titles[index] = C.ndef_title_writing{language: arena.put(title.Language), text: arena.put(title.Text), utf16: flag(title.UTF16)}
 	}
 	icons := make([]C.ndef_icon_writing, len(poster.Icons))
 	for index, icon := range poster.Icons {
-		icons[index] = C.ndef_icon_writing{media_type: shelf.put(icon.MediaType), data: shelf.put(string(icon.Data))}
+		icons[index] = C.ndef_icon_writing{media_type: arena.put(icon.MediaType), data: arena.put(string(icon.Data))}
 	}
 	why := "a text isn't UTF-8, a language code has more than 63 bytes or isn't ASCII, or the media type of an icon has none or more than 255"
 	return typed("Sp", fmt.Sprintf("the smart poster of %q", string(poster.URI)), why,
 		func(buffer *C.uint8_t, most C.ndef_size, count *C.ndef_size) C.uint32_t {
-			return C.ndef_write_poster(first(shelf.bytes), size(shelf.bytes), &how, pointer(titles), C.ndef_size(len(poster.Titles)),
+			return C.ndef_write_poster(first(arena.bytes), size(arena.bytes), &how, pointer(titles), C.ndef_size(len(poster.Titles)),
 				pointer(icons), C.ndef_size(len(poster.Icons)), buffer, most, count)
 		})
 }

@@ -49,6 +49,18 @@ func (checker *Checker) Feed(bytes []byte) (whole bool, err error) {
 	}
 }
 
+// Write feeds the bytes, as an io.Writer. It returns how many of them the message takes; the error is a *Refusal, or a *Trailing where
+// bytes follow the message.
+func (checker *Checker) Write(bytes []byte) (int, error) {
+	before := checker.Place()
+	whole, err := checker.Feed(bytes)
+	taken := checker.Place() - before
+	if whole && taken < len(bytes) {
+		err = &Trailing{Place: checker.Place()}
+	}
+	return taken, err
+}
+
 // Place returns the length of the whole message, the offset of the refused byte, or else the number of bytes fed.
 func (checker *Checker) Place() int { return int(checker.fed.place) }
 

@@ -47,6 +47,9 @@ const EndOfInput = ReasonEndOfInput
 // String returns the name of the reason, such as "TextBit".
 func (reason Reason) String() string { return C.GoString(C.ndef_reason_text(C.uint32_t(reason))) }
 
+// Error returns the name too, so that errors.Is takes a reason, as in errors.Is(err, ReasonURICode).
+func (reason Reason) Error() string { return reason.String() }
+
 // Sentence returns what the reason means, as ndef-explain prints it.
 func (reason Reason) Sentence() string { return C.GoString(C.ndef_sentence_text(C.uint32_t(reason))) }
 
@@ -58,12 +61,12 @@ type Refusal struct {
 }
 
 func (refusal *Refusal) Error() string {
-	return fmt.Sprintf("ndef: refused at byte %d: %s: %s", refusal.Place, refusal.Reason, refusal.Reason.Sentence())
+	return fmt.Sprintf("refused at %d: %s: %s", refusal.Place, refusal.Reason, refusal.Reason.Sentence())
 }
 
-// Is says that a refusal where the input ends within a message is io.ErrUnexpectedEOF.
+// Is says that a refusal is its reason, and where the input ends within a message io.ErrUnexpectedEOF.
 func (refusal *Refusal) Is(target error) bool {
-	return target == io.ErrUnexpectedEOF && refusal.Reason == ReasonEndOfInput
+	return target == refusal.Reason || target == io.ErrUnexpectedEOF && refusal.Reason == ReasonEndOfInput
 }
 
 // Trailing is the error of Parse where other bytes follow the message.

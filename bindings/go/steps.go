@@ -52,7 +52,7 @@ type MessageReader struct {
 }
 
 // Reader returns a reader of the bytes that EncodeAs writes in the form. The message may not change before its end.
-func (message *Message) Reader(form Form) *MessageReader {
+func (message Message) Reader(form Form) *MessageReader {
 	reader := &MessageReader{records: message.Records, form: form}
 	switch {
 	case len(message.Records) == 0:
@@ -63,9 +63,13 @@ func (message *Message) Reader(form Form) *MessageReader {
 	return reader
 }
 
-// WriteTo writes the message to a writer in its shortest spelling, in steps. The error is as that of Reader, or that of the writer.
-func (message *Message) WriteTo(to io.Writer) (int64, error) {
-	return io.Copy(to, message.Reader(Form{}))
+// WriteTo writes the message to a writer in its shortest spelling, in steps; nothing where it is refused. The error is as that of Encode,
+// or that of the writer.
+func (message Message) WriteTo(to io.Writer) (int64, error) {
+	if _, err := io.Copy(io.Discard, message.Reader(Form{})); err != nil {
+		return 0, err
+	}
+	return io.Copy(to, message.Reader(Form{Unchecked: true}))
 }
 
 // Read reads the next bytes of the message, as many as there are and fit. The error is as that of EncodeAs, in place of the bytes from the
@@ -93,7 +97,7 @@ func (reader *MessageReader) step(buffer []byte) int {
 		reader.steps = record.begun(uint64(len(record.Payload)), reader.form, positionOf(reader.index, len(reader.records)))
 	}
 	if reader.steps == nil {
-		reader.err = withoutSpelling(reader.index)
+		reader.err = record.withoutSpelling(reader.index)
 		return 0
 	}
 	count, taken, status := reader.steps.next(reader.payload, buffer)
@@ -125,10 +129,10 @@ func (reader *MessageReader) check(record *Record, bytes []byte) int {
 // sentence is what was wanted in the record alone, where that is refused for the reason, or else what the reason means.
 func (reader *MessageReader) sentence(record *Record, reason Reason) string {
 	how := record.writing(Form{}, Only)
-	alone, _ := record.appendTo(nil, &how)
-	if _, _, err := reader.form.Options.Check(alone); err != nil {
+	single, _ := record.appendTo(nil, &how)
+	if _, _, err := reader.form.Options.Check(single); err != nil {
 		refusal, is := err.(*Refusal)
-		if sentence, _ := reader.form.Options.Why(alone); is && refusal.Reason == reason && sentence != "" {
+		if sentence, _ := reader.form.Options.Why(single); is && refusal.Reason == reason && sentence != "" {
 			return sentence
 		}
 	}

@@ -4,104 +4,11 @@ import (
 	"bytes"
 	"errors"
 	"io"
-	"math/rand"
+	"reflect"
 	"strings"
 	"testing"
 	"testing/iotest"
 )
-
-func randomBytes(dice *rand.Rand, most int) []byte {
-	made := make([]byte, dice.Intn(most+1))
-	dice.Read(made)
-	return made
-}
-
-func randomRecord(dice *rand.Rand) Record {
-	tnf, most := TNF(dice.Intn(6)), 20
-	if tnf == Empty {
-		return Record{}
-	}
-	if dice.Intn(8) == 0 {
-		most = 600
-	}
-	record := Record{TNF: tnf, ID: string(randomBytes(dice, 6)), Payload: randomBytes(dice, most)}
-	if tnf != Unknown {
-		record.Type = "x" + string(randomBytes(dice, 40))
-	}
-	return record
-}
-
-// inSteps reads all to buffers of random sizes, each of which is filled but the last.
-func inSteps(t *testing.T, reader io.Reader, dice *rand.Rand, most int) []byte {
-	var all []byte
-	for {
-		buffer := bytes.Repeat([]byte{0xa5}, 1+dice.Intn(most))
-		count, err := reader.Read(buffer)
-		all = append(all, buffer[:count]...)
-		if strings.Trim(string(buffer[count:]), "\xa5") != "" {
-			t.Fatal("bytes after those that were read are written")
-		}
-		if err == io.EOF && count == 0 {
-			return all
-		}
-		if err != nil {
-			t.Fatal(err)
-		}
-	}
-}
-
-// inParts writes the record by random parts of its payload, of which the first is that of the record that begins.
-func inParts(t *testing.T, record Record, form Form, position Position, dice *rand.Rand) []byte {
-	var to bytes.Buffer
-	left := record.Payload
-	cut := func() []byte {
-		size := dice.Intn(len(left) + 1)
-		part := left[:size]
-		left = left[size:]
-		return part
-	}
-	length := int64(len(left))
-	record.Payload = cut()
-	writer, err := NewRecordWriter(&to, record, length, position, form)
-	if err != nil {
-		t.Fatal(err)
-	}
-	for len(left) > 0 {
-		part := cut()
-		if count, err := writer.Write(part); count != len(part) || err != nil {
-			t.Fatal(count, err)
-		}
-	}
-	if err := writer.Close(); err != nil {
-		t.Fatal(err)
-	}
-	return to.Bytes()
-}
-
-func TestStepsAreWhatIsWrittenAtOnce(t *testing.T) {
-	dice := rand.New(rand.NewSource(9))
-	for round := 0; round < 100000; round++ {
-		message := &Message{Records: make([]Record, 1+dice.Intn(4))}
-		for index := range message.Records {
-			message.Records[index] = randomRecord(dice)
-		}
-		form := Form{Long: dice.Intn(2) == 0, Chunk: uint32(dice.Intn(30)), Unchecked: true}
-		whole, err := message.EncodeAs(form)
-		if err != nil {
-			t.Fatal(err)
-		}
-		if read := inSteps(t, message.Reader(form), dice, []int{1, 2, 5, 40, 1000}[dice.Intn(5)]); !bytes.Equal(read, whole) {
-			t.Fatalf("%x is not %x", read, whole)
-		}
-		var parts []byte
-		for index, record := range message.Records {
-			parts = append(parts, inParts(t, record, form, positionOf(index, len(message.Records)), dice)...)
-		}
-		if !bytes.Equal(parts, whole) {
-			t.Fatalf("%x is not %x", parts, whole)
-		}
-	}
-}
 
 func TestReadersOfMessages(t *testing.T) {
 	message := &Message{Records: []Record{{TNF: WellKnown, Type: "T", Payload: []byte("\x02enHello")}, {TNF: Unknown, Payload: make([]byte, 70000)}}}
@@ -249,5 +156,26 @@ func TestErrorsOfWriters(t *testing.T) {
 	}
 	if _, err := writer.Write([]byte("a")); err != failing || writer.Close() != failing {
 		t.Error(err)
+	}
+}
+
+// A value has the methods of what points to it.
+var _, _ Value = SmartPoster{}, new(SmartPoster)
+
+func TestACheckerIsAWriter(t *testing.T) {
+	whole, _ := Message{Records: []Record{{TNF: Unknown, Payload: []byte("ab")}}}.Encode()
+	for cut := range whole {
+		for rest, want := range map[string]error{"": nil, "x": &Trailing{Place: len(whole)}} {
+			checker := new(Checker)
+			first, firstErr := checker.Write(whole[:cut])
+			second, err := checker.Write(append(whole[cut:len(whole):len(whole)], rest...))
+			if first != cut || firstErr != nil || first+second != len(whole) || !reflect.DeepEqual(err, want) {
+				t.Errorf("%d, %d, %v, %v", first, second, firstErr, err)
+			}
+		}
+	}
+	taken, err := new(Checker).Write([]byte{0xD1, 1, 3, 'T', 0x42, 'e', 'n'})
+	if taken != 4 || !errors.Is(err, ReasonTextBit) || errors.Is(err, ReasonLanguage) {
+		t.Errorf("%d, %v", taken, err)
 	}
 }

@@ -19,14 +19,14 @@ type RecordError struct {
 	Record   int      // the index of the record in the message
 	Refusal  *Refusal // where and why the written record is refused, counted from its first byte; nil: it has no spelling
 	Sentence string   // what was wanted there, or what is wrong with its parts, in English
+	Argument string   // without a refusal the part that is wrong: "id", "payload", "type", "format" or "several"
 }
 
 func (wrong *RecordError) Error() string {
 	if wrong.Refusal == nil {
-		return fmt.Sprintf("ndef: record %d can't be written: %s", wrong.Record, wrong.Sentence)
+		return fmt.Sprintf("record %d: BadArgument: %s", wrong.Record, wrong.Argument)
 	}
-	return fmt.Sprintf("ndef: record %d is refused at its byte %d: %s: %s", wrong.Record, wrong.Refusal.Place,
-		wrong.Refusal.Reason, wrong.Sentence)
+	return fmt.Sprintf("record %d: %v", wrong.Record, wrong.Refusal)
 }
 
 // Unwrap returns the refusal, or nil where there is none.
@@ -38,11 +38,11 @@ func (wrong *RecordError) Unwrap() error {
 }
 
 // Encode writes the message in its shortest spelling. The error is as that of EncodeAs.
-func (message *Message) Encode() ([]byte, error) { return message.EncodeAs(Form{}) }
+func (message Message) Encode() ([]byte, error) { return message.EncodeAs(Form{}) }
 
 // EncodeAs writes the message in a form. The error is a *RecordError where a record has no spelling, or where the options
 // refuse it; ErrLimits; or that the message has no record.
-func (message *Message) EncodeAs(form Form) ([]byte, error) {
+func (message Message) EncodeAs(form Form) ([]byte, error) {
 	if len(message.Records) == 0 {
 		return nil, unwritable("a message", "it has no record")
 	}
@@ -51,7 +51,7 @@ func (message *Message) EncodeAs(form Form) ([]byte, error) {
 		how := record.writing(form, positionOf(index, len(message.Records)))
 		var status C.uint32_t
 		if bytes, status = record.appendTo(bytes, &how); status != C.NDEF_OK {
-			return nil, withoutSpelling(index)
+			return nil, record.withoutSpelling(index)
 		}
 	}
 	if form.Unchecked {
@@ -61,8 +61,29 @@ func (message *Message) EncodeAs(form Form) ([]byte, error) {
 }
 
 // withoutSpelling is the error for a record with an index that has none.
-func withoutSpelling(index int) error {
-	return &RecordError{Record: index, Sentence: "its type doesn't fit its type name format, or a part is too long"}
+func (record *Record) withoutSpelling(index int) error {
+	return &RecordError{Record: index, Sentence: "its type doesn't fit its type name format, or a part is too long",
+		Argument: record.wrongArgument()}
+}
+
+// wrongArgument is the part with another of which the library writes the record.
+func (record *Record) wrongArgument() string {
+	for _, other := range []struct {
+		argument string
+		record   Record
+	}{
+		{"id", Record{record.TNF, record.Type, "", record.Payload}},
+		{"payload", Record{record.TNF, record.Type, record.ID, nil}},
+		{"type", Record{record.TNF, "", record.ID, record.Payload}},
+		{"type", Record{record.TNF, "x", record.ID, record.Payload}},
+		{"format", Record{WellKnown, record.Type, record.ID, record.Payload}},
+		{"format", Record{Unknown, record.Type, record.ID, record.Payload}},
+	} {
+		if other.record.begun(uint64(len(other.record.Payload)), Form{}, Only) != nil {
+			return other.argument
+		}
+	}
+	return "several"
 }
 
 // Position says where in its message a record is written.

@@ -1,8 +1,6 @@
 package ndef
 
 import (
-	"bytes"
-	"errors"
 	"io"
 	"reflect"
 	"strings"
@@ -21,69 +19,6 @@ var refusedRecords = map[string]struct {
 	"a poster without a URI": {Record{TNF: WellKnown, Type: "Sp", Payload: []byte{0xD0, 0, 0}}, 4, ReasonDoesNotFit, ""},
 	"a long language":        {Record{TNF: WellKnown, Type: "T", Payload: []byte{0x3F, 'a', 'b', 'c', 'd', 'e'}}, 4, ReasonDoesNotFit, "The language code has 63 octets; 5 are left in the payload."},
 	"a payload of 1 MiB + 1": {Record{TNF: Unknown, Payload: make([]byte, 1<<20+1)}, 5, ReasonPayloadTooLarge, ""},
-}
-
-func TestWhatIsRefusedIsNotWritten(t *testing.T) {
-	for name, want := range refusedRecords {
-		message := &Message{Records: []Record{{TNF: Media, Type: "a/b", ID: "x"}, want.record}}
-		written, err := message.Encode()
-		var wrong *RecordError
-		if !errors.As(err, &wrong) || written != nil || wrong.Record != 1 || wrong.Refusal == nil {
-			t.Errorf("%s: %x, %v", name, written, err)
-			continue
-		}
-		if wrong.Refusal.Place != want.place || wrong.Refusal.Reason != want.reason || wrong.Sentence == "" ||
-			want.sentence != "" && wrong.Sentence != want.sentence {
-			t.Errorf("%s: %v, %+v", name, err, wrong.Refusal)
-		}
-		unchecked, err := message.EncodeAs(Form{Unchecked: true})
-		if err != nil {
-			t.Errorf("%s: %v", name, err)
-		}
-		// The refusal is that of the reader, whose places count from the front of the message.
-		if _, err := Parse(unchecked); !isRefusal(err, len("\x9a\x03\x00\x01a/bx")+want.place, want.reason) {
-			t.Errorf("%s: %v", name, err)
-		}
-	}
-}
-
-func TestLimitsOfWhatIsWritten(t *testing.T) {
-	long := &Message{Records: make([]Record, 1025)}
-	for index := range long.Records {
-		long.Records[index] = Record{TNF: Unknown}
-	}
-	var wrong *RecordError
-	if _, err := long.Encode(); !errors.As(err, &wrong) || wrong.Record != 1023 || wrong.Refusal.Place != 0 || wrong.Refusal.Reason != ReasonTooManyRecords {
-		t.Error(err)
-	}
-	limits := DefaultLimits()
-	limits.Records = 1025
-	if written, err := long.EncodeAs(Form{Options: Options{Limits: &limits}}); err != nil || len(written) != 3*1025 {
-		t.Error(len(written), err)
-	}
-	chunked := &Message{Records: []Record{{TNF: Unknown, Payload: make([]byte, 5000)}}}
-	if _, err := chunked.EncodeAs(Form{Chunk: 1}); !errors.As(err, &wrong) || wrong.Refusal.Reason != ReasonTooManyPieces {
-		t.Error(err)
-	}
-	reserved := &Message{Records: []Record{refusedRecords["a reserved code"].record}}
-	for _, options := range []Options{{Standard: true}, {Opaque: true}} {
-		if _, err := reserved.EncodeAs(Form{Options: options}); err != nil {
-			t.Error(options, err)
-		}
-	}
-	if _, err := reserved.EncodeAs(Form{Options: Options{Limits: new(Limits)}}); err != ErrLimits {
-		t.Error(err)
-	}
-}
-
-// A message that was read by other options has its links all the same.
-func TestLinksOfWhatOptionsRead(t *testing.T) {
-	request := HandoverRequest{Minor: 2, Carriers: []AlternativeCarrier{{Power: Active, Reference: "a"}}}
-	record, _ := request.Record()
-	message := &Message{Records: []Record{record, refusedRecords["a reserved code"].record, {TNF: Media, Type: "a/b", ID: "a"}}}
-	if links, err := message.Links(0); err != nil || len(links) != 1 || links[0].Record != 2 {
-		t.Error(links, err)
-	}
 }
 
 func TestRangesOfLimits(t *testing.T) {
@@ -115,12 +50,43 @@ func TestZeroValues(t *testing.T) {
 	if whole, err := checker.Feed([]byte{7, 7}); !whole || err != nil || checker.Place() != 4 {
 		t.Error(whole, err, checker.Place())
 	}
+	checker = Checker{}
+	if _, err := checker.Feed([]byte("\xd1\x01\x01T\x40")); err == nil || checker.Place() != 4 {
+		t.Error(err, checker.Place())
+	}
 	var reader Reader
 	if message, err := reader.Next(); message != nil || err != io.EOF {
 		t.Error(message, err)
 	}
 	if _, err := new(SmartPoster).Record(); err != nil {
 		t.Error(err)
+	}
+}
+
+func TestWhatIsNotWritten(t *testing.T) {
+	of := func(value Value) error { _, err := value.Record(); return err }
+	carriers := "its minor version is above 15, or a carrier has a power state above 3, more than 255 auxiliary references or a reference of more than 255 bytes"
+	_, empty := Message{}.Encode()
+	_, read := Message{}.Reader(Form{}).Read(make([]byte, 1))
+	_, untyped := NewRecordWriter(io.Discard, Record{TNF: WellKnown}, 0, Only, Form{})
+	for _, one := range []struct {
+		err error
+		why string
+	}{
+		{of(Text{Language: "\u00e4"}), "the text can't be written: the language code has more than 63 bytes or isn't ASCII, or the text isn't UTF-8"},
+		{of(URI("\xff")), "the URI can't be written: it isn't UTF-8"},
+		{of(SmartPoster{URI: "a", Icons: []Icon{{}}}), "the smart poster of \"a\" can't be written: a text isn't UTF-8, " +
+			"a language code has more than 63 bytes or isn't ASCII, or the media type of an icon has none or more than 255"},
+		{of(&HandoverRequest{Minor: 16}), "the request can't be written: " + carriers},
+		{of(&HandoverSelect{Minor: 16}), "the select can't be written: " + carriers + ", or the data of its error don't fit the reason"},
+		{of(&HandoverCarrier{Format: 8}), "the carrier can't be written: its format is above 7, or its type has more than 255 bytes"},
+		{empty, "a message can't be written: it has no record"},
+		{read, "a message can't be written: it has no record"},
+		{untyped, "a record can't be written: its type doesn't fit its type name format, or a part is too long"},
+	} {
+		if one.err == nil || one.err.Error() != "ndef: "+one.why {
+			t.Error(one.err)
+		}
 	}
 }
 
@@ -139,18 +105,6 @@ func TestReasons(t *testing.T) {
 	}
 	if next := Reason(len(all) + 1).String(); next != "" && next != "unknown" {
 		t.Errorf("there is the reason %s too", next)
-	}
-}
-
-func TestEndOfInputIsUnexpected(t *testing.T) {
-	_, short := Parse([]byte{0xD5, 0, 2})
-	_, wrong := Parse([]byte{0xD7})
-	_, cut := NewReader(bytes.NewReader([]byte{0xD5, 0, 2}), Options{}).Next()
-	if !errors.Is(short, io.ErrUnexpectedEOF) || !errors.Is(cut, io.ErrUnexpectedEOF) || errors.Is(wrong, io.ErrUnexpectedEOF) {
-		t.Error(short, cut, wrong)
-	}
-	if errors.Is(short, io.EOF) {
-		t.Error(short)
 	}
 }
 
@@ -214,6 +168,18 @@ func TestParseManyRecords(t *testing.T) {
 				t.Fatal(count, record)
 			}
 		}
+	}
+}
+
+// What a large message took is not kept for others.
+func TestLargeScratchGoes(t *testing.T) {
+	message := Message{Records: make([]Record, mostItems+1)}
+	given, err := message.EncodeAs(Form{Unchecked: true})
+	if read, wrong := (Options{Limits: &Limits{Payload: 1, Records: mostItems + 1, Chunks: 1}}).Parse(given); err != nil || wrong != nil || len(read.Records) != mostItems+1 {
+		t.Fatal(err, wrong)
+	}
+	if scratch := taken(); len(scratch.items) > mostItems {
+		t.Error(len(scratch.items))
 	}
 }
 

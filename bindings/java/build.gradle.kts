@@ -28,8 +28,7 @@ tasks.withType<JavaCompile> {
 
 tasks.processResources {
     from("../../out/java/native")
-    from("..") {
-        include("LICENSE-MIT", "LICENSE-APACHE")
+    from("../../LICENSE-MIT", "../../LICENSE-APACHE") {
         into("META-INF/licenses")
     }
 }

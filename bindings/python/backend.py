@@ -1,5 +1,7 @@
 """Makes the wheel and the source distribution of the module, for pip and build (PEP 517). It needs a C compiler and no
-package of Python's.
+package of Python's. setuptools, flit and hatch would be fetched before each `pip install .`. The shared object doesn't use Python,
+so one wheel serves every Python 3 of a machine. Its tag is manylinux2014 where it needs no newer C library than glibc 2.17, and
+musllinux where it needs musl; both are read in the object, so a cross compiler makes wheels for other machines.
 
 The shared object in the wheel is compiled of dist/ndef.c; or it is linked of the archive libndef.a in the folder that
 NDEF_LIB_DIR names. CC names the compiler, CFLAGS its flags. The same files with the same compiler make the same wheel;
@@ -37,6 +39,8 @@ LICENSES = ('LICENSE-MIT', 'LICENSE-APACHE')
 GENERATED = ('dist/ndef.c', 'dist/SOURCE')
 # The module looks for the library by this name.
 LIBRARY: str = runpy.run_path(str(HERE / 'simbegyor_ndef/_platform.py'))['library_name']()
+# The machines that a wheel is tagged for by the code in it: their numbers in the header of an ELF file.
+MACHINES = {b'\x03\0': 'i686', b'\x3e\0': 'x86_64', b'\xb7\0': 'aarch64'}
 # The command that pip puts on the path.
 SCRIPTS = '[console_scripts]\nsimbegyor-ndef = simbegyor_ndef.__main__:main\n'
 
@@ -59,7 +63,10 @@ NAME = 'simbegyor_ndef-' + version()
 
 def moment() -> int:
     """The time that files in archives get, in seconds since 1970; a zip file can't hold one before 1980."""
-    return max(int(os.environ.get('SOURCE_DATE_EPOCH', 0)), 315532800)
+    epoch = os.environ.get('SOURCE_DATE_EPOCH') or '0'
+    if not re.fullmatch('[0-9]+', epoch) or int(epoch) >= 1 << 32:
+        stop('SOURCE_DATE_EPOCH is a number of seconds since 1970, and not %r' % epoch)
+    return max(int(epoch), 315532800)
 
 
 def absolute(page: str, home: str) -> str:
@@ -138,14 +145,25 @@ def make_library(file: pathlib.Path) -> None:
         stop("%s doesn't compile the library, as it says above: name another C compiler with CC" % words[0])
 
 
+def machine_of(code: bytes) -> str:
+    """The machine that an ELF file of Linux is for; it is that of this Python, unless the file is for one of these."""
+    if code[18:20] in MACHINES:
+        return 'linux_' + MACHINES[code[18:20]]
+    if code[18:20] != pathlib.Path(sys.executable).read_bytes()[18:20]:
+        stop('a wheel can be made for another machine where that is one of ' + ', '.join(MACHINES.values()))
+    return sysconfig.get_platform().replace('-', '_').replace('.', '_')
+
+
 def platform_tag(library: pathlib.Path) -> str:
-    """The platform of a wheel: manylinux2014 where the shared object needs the GNU C library alone, and of that no call
-    newer than 2.17."""
-    machine = sysconfig.get_platform().replace('-', '_').replace('.', '_')
+    """The platform of a wheel: musllinux where the shared object needs only musl, and manylinux2014 where it needs only the GNU C library,
+    and of that no call newer than 2.17."""
     code = library.read_bytes()
+    machine = machine_of(code) if sys.platform == 'linux' else sysconfig.get_platform().replace('-', '_').replace('.', '_')
     needed = set(re.findall(rb'\0([\w.+-]+\.so[.\d]*)(?=\0)', code))
     versions = [tuple(map(int, number.split(b'.'))) for number in re.findall(rb'\0GLIBC_([\d.]+)(?=\0)', code)]
     is_known = machine in ('linux_x86_64', 'linux_i686', 'linux_aarch64', 'linux_armv7l')
+    if is_known and needed and all(re.fullmatch(rb'libc\.(so|musl-\w+\.so\.1)', name) for name in needed):
+        return machine.replace('linux', 'musllinux_1_1')
     if not is_known or needed - {b'libc.so.6'} or max(versions, default=()) > (2, 17):
         return machine
     return machine.replace('linux', 'manylinux2014') + '.' + machine.replace('linux', 'manylinux_2_17')

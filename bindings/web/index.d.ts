@@ -34,7 +34,7 @@ export interface PartsOptions extends EncodeOptions {
 
 /** The error for bytes that are refused, and for a record that `encode` doesn't write since they would be. */
 export class NdefError extends Error {
-    constructor(place: number, reason: number, name: string, sentence: string, record?: number | null);
+    constructor(place: number, reason: number, name: string, sentence: string, record?: number | null, meaning?: string);
     /** The first byte after which none that follow make the bytes a message, or the number of the bytes. Of a record it counts from its first byte. */
     readonly place: number;
     /** The index of the record that `encode` doesn't write, counted from 0; null for bytes that were given. */

@@ -1,5 +1,5 @@
 // A record of a message as the library reads it.
-import { utf8 } from "./given.js";
+import { utf8 } from "./bytes.js";
 import { LAYOUT } from "./interface.js";
 import { wordsOf } from "./memory.js";
 

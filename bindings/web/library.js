@@ -49,15 +49,20 @@ export function optionsOf(options) {
 
 // The error for bytes that are no message, or no payload of their type: `place` is the first byte after which none that
 // follow make the bytes one, or their number; `reason` its number, `name` its name, `sentence` what it means. Where `encode` refuses a record,
-// `record` is its index, and `place` counts from its first byte; else `record` is null.
+// `record` is its index, and `place` counts from its first byte; else `record` is null. The message has what the reason means.
 export class NdefError extends Error {
-    constructor(place, reason, name, sentence, record = null) {
-        super(record === null ? `refused at byte ${place}: ${sentence}` : `record ${record} is refused at its byte ${place}: ${sentence}`);
+    constructor(place, reason, name, sentence, record = null, meaning = sentence) {
+        super(`${record === null ? "" : `record ${record}: `}refused at ${place}: ${name}: ${meaning}`);
         this.record = record;
         this.place = place;
         this.reason = reason;
         this.name = name;
         this.sentence = sentence;
+    }
+
+    // The same words as the first line of its stack: `name` is that of the reason.
+    toString() {
+        return `NdefError: ${this.message}`;
     }
 
     // The error for what a call of ndef.js refused.

@@ -1,5 +1,5 @@
 // The memory of the library in WebAssembly: what is laid into it, and what is read from it.
-import { utf8 } from "./given.js";
+import { utf8 } from "./bytes.js";
 import { LAYOUT } from "./interface.js";
 
 const STRUCTS = 1024; // memory for structs, before the bytes
@@ -47,7 +47,7 @@ export function countBelow(count, holds) {
 }
 
 // The memory after an address, `base`: first the structs, each at an offset from there, and then bytes. It is seen as bytes and as words of 32
-// bits; these views are made once, and anew where the memory has grown.
+// bits; these views are made once, and again where the memory has grown.
 export class Memory {
     #memory;
     #octets;
@@ -131,14 +131,14 @@ export class Memory {
 
     // The members of a struct at an offset, by their names, each a number.
     struct(name, offset) {
-        const { words } = this, told = {};
+        const { words } = this, values = {};
         for (const { member, place, size } of MEMBERS[name]) {
             const at = (this.base + offset + place) >> 2;
-            if (size === 4) told[member] = words[at];
-            else if (size === 8) told[member] = words[at] + words[at + 1] * 2 ** 32;
-            else told[member] = this.struct("part", offset + place);
+            if (size === 4) values[member] = words[at];
+            else if (size === 8) values[member] = words[at] + words[at + 1] * 2 ** 32;
+            else values[member] = this.struct("part", offset + place);
         }
-        return told;
+        return values;
     }
 
     // The structs of an array at an offset.

@@ -1,5 +1,5 @@
 // Reads messages: checks, decodes and explains bytes, and follows the links of a handover.
-import { octets } from "./given.js";
+import { octets } from "./bytes.js";
 import { PROGRAM, hintText } from "./hint.js";
 import { Ndef } from "./ndef.js";
 import { NdefError, accepted, library, optionsOf } from "./library.js";

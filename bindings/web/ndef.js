@@ -7,8 +7,8 @@
 // An answer has the `status` of the call. If that is Ndef.REFUSED, it has `place` and `reason`; if it is Ndef.OK, what each method below
 // lists. Places and lengths count bytes. Bytes are an ArrayBuffer or a view of one, of which its own bytes count. Anything else is a TypeError,
 // as is a limit, a flag or a place that is no number. Numbers out of range are a RangeError. Characters are a string, or bytes in UTF-8.
-import { Shelf, characters, joined, octets, utf8, whole } from "./given.js";
-import { taking, wide } from "./calling.js";
+import { Arena, characters, joined, octets, utf8, whole } from "./bytes.js";
+import { taking, wide } from "./numbers.js";
 import { CALLS, FLAG, HINT, KIND, LAYOUT, STATUS } from "./interface.js";
 import { FORM, Item } from "./item.js";
 import { Memory, countBelow, structOf, wordsOf } from "./memory.js";
@@ -50,11 +50,11 @@ export class Ndef {
 
     // What the payload of a record is, each with its number: OTHER, TEXT, URI, SMART_POSTER, REQUEST, SELECT, CARRIER; and ACTION, SIZE,
     // MEDIA_TYPE, ALTERNATIVE, COLLISION and ERROR, which stand in smart posters and handovers alone. Older bundlers fail where the constant has the same name.
-    static KIND = KINDS;
+    static "KIND" = KINDS; // in quotes, since rollup 3 renames a field with the name of an import
 
     // What a hint is about, each with its number: TLV, ATTRIBUTES and FILE, of a tag that has bytes for a message; MESSAGE, TERMINATOR,
     // DIGITS, XXD, HEXDUMP, WORDS, FLIPPER, PROXMARK, BASE64, CODE, STANDARD.
-    static HINT = HINTS;
+    static "HINT" = HINTS;
 
     // Loads the library. `code` is the content of ndef.wasm.
     static async load(code) {
@@ -248,7 +248,8 @@ export class Ndef {
     findHint(bytes, options) {
         const given = octets(bytes), [at] = this.#memory.lay([given]);
         this.#layLimits(options);
-        return this.calls.ndef_find_hint(at, given.length, this.base, this.base + OUT) === Ndef.OK ? this.#memory.struct("found", OUT) : null;
+        const status = this.#inRangeOrOpaque(this.calls.ndef_find_hint(at, given.length, this.base, this.base + OUT), options);
+        return status === Ndef.OK ? this.#memory.struct("found", OUT) : null;
     }
 
     // What is strange in a field of a message that check accepts, in a sentence of English, or null: by the name that `fields` gives of
@@ -335,11 +336,11 @@ export class Ndef {
     // An alternative carrier: { power, references }, each reference as { at, length }.
     alternative(payload) {
         const given = octets(payload);
-        const told = this.#read(given, this.calls.ndef_alternative, () => ({ power: this.#memory.struct("alternative_parts", OUT).power }));
-        if (told.status !== Ndef.OK) return told;
+        const alternative = this.#read(given, this.calls.ndef_alternative, () => ({ power: this.#memory.struct("alternative_parts", OUT).power }));
+        if (alternative.status !== Ndef.OK) return alternative;
         const references = this.#array([given], "part", ([at], array, count) =>
             this.calls.ndef_references(at, given.length, array, count, this.base + COUNT));
-        return { ...told, references };
+        return { ...alternative, references };
     }
 
     // A handover error: { dataAt, dataLength, errorReason, number }; number is null where the data hold none.
@@ -441,8 +442,8 @@ export class Ndef {
 
     // The payload of an alternative carrier. References: a list of characters, the carrier data reference first.
     writeAlternative(power, references) {
-        const shelf = new Shelf(), parts = references.map((reference) => shelf.put(reference)), number = whole(power, U32_MOST, "power");
-        return this.#written([shelf.bytes, this.#parts(parts)], ([at, array], [size], ...buffer) =>
+        const arena = new Arena(), parts = references.map((reference) => arena.put(reference)), number = whole(power, U32_MOST, "power");
+        return this.#written([arena.bytes, this.#parts(parts)], ([at, array], [size], ...buffer) =>
             this.calls.ndef_write_alternative(number, at, size, array, parts.length, ...buffer));
     }
 
@@ -470,37 +471,37 @@ export class Ndef {
     // The payload of a smart poster: its uri, titles ({ language, text, utf16 } each), action, size, mediaType and icons
     // ({ mediaType, data } each). What is null or left out isn't there.
     writePoster({ uri, titles = [], action = null, size = null, mediaType = null, icons = [] }) {
-        const shelf = new Shelf(), [hasAction, actionNumber] = optionalNumber(action, "action");
+        const arena = new Arena(), [hasAction, actionNumber] = optionalNumber(action, "action");
         const [hasSize, sizeNumber] = optionalNumber(size, "size"), hasMediaType = mediaType === null ? 0 : 1;
         const how = structOf(LAYOUT.poster_writing, {
-            uri: shelf.put(uri), mediaType: hasMediaType ? shelf.put(mediaType) : undefined, hasMediaType, hasAction,
+            uri: arena.put(uri), mediaType: hasMediaType ? arena.put(mediaType) : undefined, hasMediaType, hasAction,
             action: actionNumber, hasSize, size: sizeNumber,
         });
         const titleArray = joined(titles.map(({ language, text, utf16 = false }) =>
-            structOf(LAYOUT.title_writing, { language: shelf.put(language), text: shelf.put(text), utf16: utf16 ? 1 : 0 })));
+            structOf(LAYOUT.title_writing, { language: arena.put(language), text: arena.put(text), utf16: utf16 ? 1 : 0 })));
         const iconArray = joined(icons.map((icon) =>
-            structOf(LAYOUT.icon_writing, { mediaType: shelf.put(icon.mediaType), data: shelf.put(icon.data) })));
-        return this.#written([shelf.bytes, how, titleArray, iconArray], ([at, writing, title, icon], [length], ...buffer) =>
+            structOf(LAYOUT.icon_writing, { mediaType: arena.put(icon.mediaType), data: arena.put(icon.data) })));
+        return this.#written([arena.bytes, how, titleArray, iconArray], ([at, writing, title, icon], [length], ...buffer) =>
             this.calls.ndef_write_poster(at, length, writing, title, titles.length, icon, icons.length, ...buffer));
     }
 
     // The payload of a handover request: its minor version, its random number, and its alternatives, each
     // { power, references } as writeAlternative takes them.
     writeRequest({ minor, collision, alternatives = [] }) {
-        const shelf = new Shelf(), { references, carriers, count } = this.#alternatives(shelf, alternatives);
+        const arena = new Arena(), { references, carriers, count } = this.#alternatives(arena, alternatives);
         const version = whole(minor, U32_MOST, "minor"), number = whole(collision, U32_MOST, "collision");
-        return this.#written([shelf.bytes, references, carriers], ([at, parts, array], [length], ...buffer) =>
+        return this.#written([arena.bytes, references, carriers], ([at, parts, array], [length], ...buffer) =>
             this.calls.ndef_write_request(version, number, at, length, parts, count, array, alternatives.length, ...buffer));
     }
 
     // The payload of a handover select: its minor version, its alternatives, and its error ({ reason, data }) or null.
     writeSelect({ minor, alternatives = [], error = null }) {
-        const shelf = new Shelf(), { references, carriers, count } = this.#alternatives(shelf, alternatives);
+        const arena = new Arena(), { references, carriers, count } = this.#alternatives(arena, alternatives);
         const [hasError, reason] = optionalNumber(error?.reason, "reason");
         const how = structOf(LAYOUT.select_writing, {
-            data: hasError ? shelf.put(error.data ?? "") : undefined, minor: whole(minor, U32_MOST, "minor"), hasError, reason,
+            data: hasError ? arena.put(error.data ?? "") : undefined, minor: whole(minor, U32_MOST, "minor"), hasError, reason,
         });
-        return this.#written([shelf.bytes, how, references, carriers], ([at, writing, parts, array], [length], ...buffer) =>
+        return this.#written([arena.bytes, how, references, carriers], ([at, writing, parts, array], [length], ...buffer) =>
             this.calls.ndef_write_select(writing, at, length, parts, count, array, alternatives.length, ...buffer));
     }
 
@@ -551,10 +552,10 @@ export class Ndef {
     #parts(parts) { return joined(parts.map(([at, length]) => structOf(LAYOUT.part, { at, length }))); }
 
     // The references of alternative carriers, and the carriers, each as the bytes of an array.
-    #alternatives(shelf, alternatives) {
+    #alternatives(arena, alternatives) {
         const parts = [], carriers = alternatives.map(({ power, references }) => {
             const first = parts.length;
-            references.forEach((reference) => parts.push(shelf.put(reference)));
+            references.forEach((reference) => parts.push(arena.put(reference)));
             return structOf(LAYOUT.alternative_writing, { first, references: references.length, power: whole(power, U32_MOST, "power") });
         });
         return { references: this.#parts(parts), carriers: joined(carriers), count: parts.length };
@@ -585,6 +586,9 @@ export class Ndef {
         throw new RangeError(`a limit or a flag is out of range: ${JSON.stringify(this.#memory.struct("limits", 0))}`);
     }
 
+    // The same where the library looks into payloads alone, so that NDEF_OPAQUE is refused too, of which nothing is said.
+    #inRangeOrOpaque(status, options) { return options?.flags & Ndef.OPAQUE ? status : this.#inRange(status); }
+
     // Lays the limits, the usual ones where an option is left out.
     #layLimits(options = {}) {
         if (options === null || typeof options !== "object") throw new TypeError("options are an object");
@@ -611,7 +615,7 @@ export class Ndef {
     #sentenceOf(call, bytes, options) {
         const given = octets(bytes), [at, buffer] = this.#memory.lay([given, SENTENCE]);
         this.#layLimits(options);
-        return this.#said(call(at, given.length, this.base, buffer, SENTENCE, this.base + COUNT), buffer);
+        return this.#said(this.#inRangeOrOpaque(call(at, given.length, this.base, buffer, SENTENCE, this.base + COUNT), options), buffer);
     }
 
     // What a call wrote to a buffer, or null where it wrote nothing.
@@ -709,9 +713,9 @@ export class Ndef {
     }
 
     // What a call reads of a payload; `flags` are given to those that take them.
-    #read(payload, call, told, flags) {
+    #read(payload, call, valuesOf, flags) {
         const given = flags === undefined ? [] : [whole(flags, U32_MOST, "flags")], [at] = this.#memory.lay([payload]);
-        return this.#answer(call(at, payload.length, ...given, this.base + OUT, this.base + WHY), told);
+        return this.#answer(call(at, payload.length, ...given, this.base + OUT, this.base + WHY), valuesOf);
     }
 
     // The structs of an array that a call fills; none where the call answers another status. Asks for their number first.
@@ -733,8 +737,8 @@ export class Ndef {
         }
     }
 
-    #answer(status, told) {
-        if (status === Ndef.OK) return { status, ...told() };
+    #answer(status, valuesOf) {
+        if (status === Ndef.OK) return { status, ...valuesOf() };
         return status === Ndef.REFUSED ? this.#checked(status, WHY) : { status };
     }
 

@@ -28,7 +28,7 @@ function digitsOf(text) {
     if (lines.length > 0 && lines.every(isXxd)) return { form: "output of xxd", digits: lines.map(digitsOfXxd).join("") };
     const ended = lines.length > 1 && isEnd(last), dumped = ended ? lines.slice(0, -1) : lines, rows = dumped.filter((line) => line.trim() !== "*");
     const isDump = rows.length > 0 && [isHexdump, isOfBytes, isOfWords].some((is) => rows.every(is));
-    if (isDump && rows.length < dumped.length) return { wrong: "The dump leaves out lines that repeat (*): make it anew with the option -v." };
+    if (isDump && rows.length < dumped.length) return { wrong: "The dump leaves out lines that repeat (*): make it again with the option -v." };
     if (rows.length > 0 && rows.every(isHexdump)) return { form: "output of hexdump", digits: rows.map(digitsOfDump).join("") };
     // A place of 7 digits is no row of bytes; others are taken for a place where the last line has one alone.
     const hasPlaces = ended || rows.every((line) => /^\s*[0-9a-f]{7}\s/i.test(line));
@@ -95,7 +95,7 @@ export function bytesOfHex(text) {
             digits++;
         }
     }
-    if (wrong !== null) return `"${wrong}" is no hexadecimal digit.`;
+    if (wrong !== null) return `"${wrong}" isn't a hexadecimal digit.`;
     return digits % 2 ? "There is an odd number of hexadecimal digits." : bytes.slice(0, digits / 2);
 }
 

@@ -1,28 +1,28 @@
 // What the payload of a record means, in lines of text. The library reads it: ndef.js.
 import { Ndef } from "./ndef.js";
-import { strictUtf8 } from "./given.js";
+import { strictUtf8 } from "./bytes.js";
 import { plural, quoted, refusal, visible } from "./page_elements.js";
 
 export const POWER_NAMES = ["inactive", "active", "activating", "unknown"];
 export const ACTION_NAMES = ["do it", "save it", "open it"];
 
 function readText(ndef, payload) {
-    const told = ndef.text(payload);
-    if (told.status !== Ndef.OK) return told;
-    return { lines: [`Text: ${visible(told.text)}`, `Language: ${visible(told.language) || "none"}${told.utf16 ? ", UTF-16" : ""}`] };
+    const value = ndef.text(payload);
+    if (value.status !== Ndef.OK) return value;
+    return { lines: [`Text: ${visible(value.text)}`, `Language: ${visible(value.language) || "none"}${value.utf16 ? ", UTF-16" : ""}`] };
 }
 
 function readUri(ndef, payload, flags) {
-    const told = ndef.uri(payload, flags);
-    return told.status === Ndef.OK ? { lines: [`URI: ${visible(told.text)}`] } : told;
+    const value = ndef.uri(payload, flags);
+    return value.status === Ndef.OK ? { lines: [`URI: ${visible(value.text)}`] } : value;
 }
 
 function readPoster(ndef, payload, flags) {
-    const told = ndef.poster(payload, flags);
-    if (told.status !== Ndef.OK) return told;
-    const lines = [`Smart poster: ${visible(told.uri)}`];
-    if (told.action !== null) lines.push(`Action: ${told.action}${ACTION_NAMES[told.action] ? ", " + ACTION_NAMES[told.action] : ""}`);
-    if (told.size !== null) lines.push(`Size: ${plural(told.size, "byte")}`);
+    const value = ndef.poster(payload, flags);
+    if (value.status !== Ndef.OK) return value;
+    const lines = [`Smart poster: ${visible(value.uri)}`];
+    if (value.action !== null) lines.push(`Action: ${value.action}${ACTION_NAMES[value.action] ? ", " + ACTION_NAMES[value.action] : ""}`);
+    if (value.size !== null) lines.push(`Size: ${plural(value.size, "byte")}`);
     return { lines, nested: 0 };
 }
 
@@ -37,38 +37,38 @@ function linkLines(ndef, payload, message) {
 
 // include/ndef.h: the payload of a request or select is a version byte and then a message.
 function readRequest(ndef, payload, flags, message) {
-    const told = ndef.request(payload, flags);
-    if (told.status !== Ndef.OK) return told;
-    const lines = [`Handover request ${told.major}.${told.minor}, random number ${told.collision}`];
+    const value = ndef.request(payload, flags);
+    if (value.status !== Ndef.OK) return value;
+    const lines = [`Handover request ${value.major}.${value.minor}, random number ${value.collision}`];
     return { lines: [...lines, ...linkLines(ndef, payload, message)], nested: 1 };
 }
 
 function readSelect(ndef, payload, flags, message) {
-    const told = ndef.select(payload, flags);
-    if (told.status !== Ndef.OK) return told;
-    const lines = [`Handover select ${told.major}.${told.minor}${told.error === null ? "" : `, error ${told.error}`}`];
+    const value = ndef.select(payload, flags);
+    if (value.status !== Ndef.OK) return value;
+    const lines = [`Handover select ${value.major}.${value.minor}${value.error === null ? "" : `, error ${value.error}`}`];
     return { lines: [...lines, ...linkLines(ndef, payload, message)], nested: 1 };
 }
 
 function readCarrier(ndef, payload) {
-    const told = ndef.carrier(payload);
-    if (told.status !== Ndef.OK) return told;
-    const type = quoted(payload.slice(told.typeAt, told.typeAt + told.typeLength));
-    return { lines: [`Carrier type ${type}, format ${told.format}, ${plural(told.dataLength, "byte")} of data`] };
+    const value = ndef.carrier(payload);
+    if (value.status !== Ndef.OK) return value;
+    const type = quoted(payload.slice(value.typeAt, value.typeAt + value.typeLength));
+    return { lines: [`Carrier type ${type}, format ${value.format}, ${plural(value.dataLength, "byte")} of data`] };
 }
 
 function readAlternative(ndef, payload) {
-    const told = ndef.alternative(payload);
-    if (told.status !== Ndef.OK) return told;
-    const names = told.references.map(({ at, length }) => `"${quoted(payload.slice(at, at + length))}"`);
-    return { lines: [`Alternative carrier, power state ${POWER_NAMES[told.power]}, references ${names.join(", ")}`] };
+    const value = ndef.alternative(payload);
+    if (value.status !== Ndef.OK) return value;
+    const names = value.references.map(({ at, length }) => `"${quoted(payload.slice(at, at + length))}"`);
+    return { lines: [`Alternative carrier, power state ${POWER_NAMES[value.power]}, references ${names.join(", ")}`] };
 }
 
 function readError(ndef, payload) {
-    const told = ndef.error(payload);
-    if (told.status !== Ndef.OK) return told;
-    const number = told.number === null ? "" : `, number ${told.number}`;
-    return { lines: [`Error ${told.errorReason}${number}`] };
+    const value = ndef.error(payload);
+    if (value.status !== Ndef.OK) return value;
+    const number = value.number === null ? "" : `, number ${value.number}`;
+    return { lines: [`Error ${value.errorReason}${number}`] };
 }
 
 // The call of the library for each type of the NFC Forum, as include/ndef.h names them.
@@ -93,7 +93,7 @@ function contentOf({ type, payload }) {
 export function meaning(ndef, record, message, flags) {
     const read = record.tnf === 1 ? READERS.get(quoted(record.type)) : undefined;
     if (!read) return { lines: record.tnf === MEDIA ? contentOf(record) : [], nested: null };
-    const told = read(ndef, record.payload, flags & Ndef.STANDARD, message);
-    if (told.status === Ndef.REFUSED) return { lines: [], why: refusal(ndef, told, " of the payload"), nested: null };
-    return { lines: [], nested: null, ...told };
+    const value = read(ndef, record.payload, flags & Ndef.STANDARD, message);
+    if (value.status === Ndef.REFUSED) return { lines: [], why: refusal(ndef, value, " of the payload"), nested: null };
+    return { lines: [], nested: null, ...value };
 }

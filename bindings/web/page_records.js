@@ -28,11 +28,11 @@ function* recordsIn(ndef, bytes) {
 function* rowsIn(ndef, { bytes, start, depth, prefix }, flags, isWanted) {
     let number = 0;
     for (const record of recordsIn(ndef, bytes)) {
-        const name = `${prefix}${++number}`, told = isWanted(record, start) ? meaning(ndef, record, bytes, flags) : { lines: [], nested: null };
-        yield { name, number, record, told, depth, start };
-        if (told.nested === null || depth > 3) continue;
-        const within = record.payload.slice(told.nested);
-        const place = start !== null && record.chunks === 1 ? start + record.payloadAt + told.nested : null;
+        const name = `${prefix}${++number}`, content = isWanted(record, start) ? meaning(ndef, record, bytes, flags) : { lines: [], nested: null };
+        yield { name, number, record, content, depth, start };
+        if (content.nested === null || depth > 3) continue;
+        const within = record.payload.slice(content.nested);
+        const place = start !== null && record.chunks === 1 ? start + record.payloadAt + content.nested : null;
         yield* rowsIn(ndef, { bytes: within, start: place, depth: depth + 1, prefix: `${name}.` }, flags, isWanted);
     }
 }
@@ -60,7 +60,7 @@ export function* paintMessages(ndef, messages, options, fields, refused) {
 
 // How far a record of a refused message can be trusted: the check has gone as far as the refused byte.
 function stateOf({ at, end }, place) {
-    if (end <= place) return "sound";
+    if (end <= place) return "valid";
     return at <= place ? "refused here" : "after the refused byte, not checked";
 }
 
@@ -77,25 +77,25 @@ function remarkOnRecord(ndef, { bytes, answer }, { number, depth }) {
     return ndef.recordWarning(bytes, number - 1);
 }
 
-function valueCell(told) {
-    if (told.why) return [element("span", { kind: "why", text: capital(told.why) })];
-    if (told.lines.length < 2) return told.lines;
-    return [element("ul", {}, ...told.lines.map((line) => element("li", { text: line })))];
+function valueCell(content) {
+    if (content.why) return [element("span", { kind: "why", text: capital(content.why) })];
+    if (content.lines.length < 2) return content.lines;
+    return [element("ul", {}, ...content.lines.map((line) => element("li", { text: line })))];
 }
 
 const COLUMNS = ["Record", "Place", "Type name format", "Type", "Id", "Payload", "Value"], STATE = "State";
 
 // The row of a record; its remark stands below its value.
-function recordRow({ name, record, told, depth, state, remark }) {
-    const value = [...valueCell(told), ...(remark === null ? [] : [element("p", { kind: "remark", text: remark })])];
+function recordRow({ name, record, content, depth, state, remark }) {
+    const value = [...valueCell(content), ...(remark === null ? [] : [element("p", { kind: "remark", text: remark })])];
     const cells = [
         [name], [String(record.at)], [`${record.tnf} ${TNF[record.tnf]}`], [element("code", { text: quoted(record.type) })],
         [element("code", { text: quoted(record.id) })], payloadCell(record), value, ...(state === undefined ? [] : [[state]]),
     ];
     const row = element("tr", { kind: depth ? "nested" : "" });
     row.style.setProperty("--depth", depth);
-    cells.forEach((content, index) => {
-        const cell = element("td", { "data-name": COLUMNS[index] ?? STATE }, ...content);
+    cells.forEach((children, index) => {
+        const cell = element("td", { "data-name": COLUMNS[index] ?? STATE }, ...children);
         if (!cell.textContent) cell.className = "none";
         row.append(cell);
     });
@@ -158,8 +158,7 @@ export function* listMessages(ndef, messages, options) {
     if (isRefused && last >= MOST_TABLES) yield* list(last);
 }
 
-// Work that says what is sound of an input that is refused: the messages before, and of the refused one the whole records and the
-// fields.
+// Work that says what is valid in a refused input: the messages before, and the whole records and the fields of the refused one.
 export function* showSound(ndef, bytes, messages, options) {
     const { at, answer } = messages[messages.length - 1], whole = messages.length - 1, head = bytes.subarray(at, at + answer.place), parts = [];
     let records = 0, end = 0;
@@ -173,5 +172,5 @@ export function* showSound(ndef, bytes, messages, options) {
     if (whole) parts.push(`${plural(whole, "message")} before it`);
     if (records) parts.push(`${plural(records, "whole record")} of this message, ${plural(end, "byte")}`);
     if (begun) parts.push(`${plural(begun, "field")} of the record with the refused byte`);
-    byId("sound").textContent = parts.length ? `Sound: ${parts.join("; ")}.` : "Nothing before the refused byte is sound.";
+    byId("sound").textContent = parts.length ? `Valid so far: ${parts.join("; ")}.` : "Nothing before the refused byte is valid.";
 }

@@ -1,7 +1,7 @@
 // The part of the page that writes: a form for each kind of record, the list of the records, the bytes of their message, and on
 // which tags it fits.
 import { NDEFMessage, NDEFRecord, encode, utf16Of } from "./record.js";
-import { handoverRequest, handoverSelect, smartPoster } from "./making.js";
+import { handoverRequest, handoverSelect, smartPoster } from "./builders.js";
 import { ACTION_NAMES, POWER_NAMES } from "./page_meaning.js";
 import { bytesOf } from "./page_input.js";
 import { byId, capital, element, plural, toHex, visible } from "./page_elements.js";
@@ -18,6 +18,7 @@ const lines = (label, value = "") => ({ label, control: "textarea", value });
 const choice = (label, ...names) => ({ label, control: "select", names });
 const check = (label) => ({ label, control: "checkbox" });
 const ID = line("Id (may be empty)");
+const URI = { ...line("URI"), placeholder: "https://" };
 const PAYLOAD = { payload: lines("Payload"), layout: choice("The payload is given as", "text", "bytes (hexadecimal or base64)") };
 const CARRIERS = lines("Carriers: one a line, each its power state and the id of its record, as “active b”");
 
@@ -83,10 +84,10 @@ const KINDS = {
         fields: { data: lines("Text"), lang: line("Language", "en"), utf16: check("Write it in UTF-16"), id: ID },
         make: textOf,
     },
-    "URI": { fields: { data: line("URI", "https://"), id: ID }, make: (given) => new NDEFRecord({ recordType: "url", ...given }) },
+    "URI": { fields: { data: URI, id: ID }, make: (given) => new NDEFRecord({ recordType: "url", ...given }) },
     "Smart poster": {
         fields: {
-            uri: line("URI", "https://"), titles: lines("Titles: one a line, each after its language, as “en: Hello”"),
+            uri: URI, titles: lines("Titles: one a line, each after its language, as “en: Hello”"),
             action: choice("Action", "none", ...ACTION_NAMES), size: line("Bytes of what the URI leads to (may be empty)"),
             mediaType: line("Media type of it (may be empty)"), id: ID,
         },
@@ -110,7 +111,7 @@ const KINDS = {
         fields: { type: line("Type", "example.com:type"), ...PAYLOAD, id: ID },
         make: (given) => new NDEFRecord({ tnf: 4, type: given.type, id: given.id, payload: payloadOf(given) }),
     },
-    "Absolute URI": { fields: { type: line("URI", "https://"), id: ID }, make: (given) => new NDEFRecord({ tnf: 3, ...given }) },
+    "Absolute URI": { fields: { type: URI, id: ID }, make: (given) => new NDEFRecord({ tnf: 3, ...given }) },
     "Unknown": {
         fields: { ...PAYLOAD, id: ID }, make: (given) => new NDEFRecord({ recordType: "unknown", id: given.id, data: payloadOf(given) }),
     },
@@ -121,12 +122,12 @@ const KINDS = {
     "Empty": { fields: {}, make: () => new NDEFRecord({ recordType: "empty" }) },
 };
 
-function controlOf(name, { control, value, names }) {
+function controlOf(name, { control, value, names, placeholder = "" }) {
     const id = `field-${name}`;
     if (control === "select") return element("select", { id }, ...names.map((text) => element("option", { text })));
     if (control === "checkbox") return element("input", { id, type: "checkbox" });
     const made = element(control, control === "textarea" ? { id, rows: 2 } : { id, autocomplete: "off", autocapitalize: "off" });
-    made.value = value;
+    Object.assign(made, { value, placeholder });
     return made;
 }
 

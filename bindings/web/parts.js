@@ -1,5 +1,5 @@
 // Messages written in parts of a size, and records whose payload comes in parts: neither is whole in memory.
-import { octets, whole } from "./given.js";
+import { octets, whole } from "./bytes.js";
 import { Ndef } from "./ndef.js";
 import { NdefError, library, optionsOf, written } from "./library.js";
 import { NDEFRecord, causesOf, messageFor, partsOf } from "./record.js";
@@ -62,10 +62,10 @@ class Check {
     // The sentence is that of the record alone, where it is at hand and is refused alone for the same reason.
     #refusal({ place, reason }, { tnf, type, id, payload }, index) {
         const calls = library(), flags = Ndef.WRITE_FIRST | Ndef.WRITE_LAST;
-        const alone = payload === undefined ? null : calls.writeRecord({ tnf, type, id, payload, flags }).bytes;
-        const isSame = alone !== null && calls.check(alone, this.#how).reason === reason;
-        const sentence = (isSame ? calls.why(alone, this.#how) : null) ?? calls.reasonSentence(reason);
-        return new NdefError(place - this.#begun, reason, calls.reasonName(reason), sentence, index);
+        const single = payload === undefined ? null : calls.writeRecord({ tnf, type, id, payload, flags }).bytes;
+        const isSame = single !== null && calls.check(single, this.#how).reason === reason;
+        const meaning = calls.reasonSentence(reason), sentence = (isSame ? calls.why(single, this.#how) : null) ?? meaning;
+        return new NdefError(place - this.#begun, reason, calls.reasonName(reason), sentence, index, meaning);
     }
 }
 

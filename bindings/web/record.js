@@ -1,6 +1,6 @@
 // Records and messages in the shape of Web NFC: NDEFRecord and NDEFMessage have the members that they have there, and a few
 // more. The names of Web NFC stand for types of NDEF; what payloads hold, the library says.
-import { characters, joined, octets, strictUtf8, utf8 } from "./given.js";
+import { characters, joined, octets, strictUtf8, utf8 } from "./bytes.js";
 import { Ndef } from "./ndef.js";
 import { NdefError, accepted, library, optionsOf, written } from "./library.js";
 import { messageWithin, valueOf } from "./values.js";
@@ -138,6 +138,8 @@ export class NDEFRecord {
         this.#read = made === MADE ? init : readOf(init instanceof NDEFRecord ? init.#read : partsOf(init));
     }
 
+    get [Symbol.toStringTag]() { return "NDEFRecord"; }
+
     get recordType() {
         const { tnf, kind, type } = this.#read;
         switch (tnf) {
@@ -262,6 +264,8 @@ export class NDEFMessage {
         this.records = Object.freeze(records.map((record) => (record instanceof NDEFRecord ? record : new NDEFRecord(record))));
     }
 
+    get [Symbol.toStringTag]() { return "NDEFMessage"; }
+
     // What NDEFReader.write of Web NFC takes for this message.
     toInit() {
         return { records: this.records.map((record) => record.toInit()) };
@@ -283,10 +287,10 @@ export function messageFor(source) {
 
 // The error for a message that was written, of the answer of the check that refuses it. `parts` are the bytes of its records.
 function refusalOf(bytes, parts, how, { place, reason }) {
-    const calls = library(), sentence = calls.why(bytes, how) ?? calls.reasonSentence(reason);
+    const calls = library(), meaning = calls.reasonSentence(reason), sentence = calls.why(bytes, how) ?? meaning;
     let record = 0, begin = 0;
     while (record < parts.length - 1 && begin + parts[record].length <= place) begin += parts[record++].length;
-    return new NdefError(place - begin, reason, calls.reasonName(reason), sentence, record);
+    return new NdefError(place - begin, reason, calls.reasonName(reason), sentence, record, meaning);
 }
 
 // The bytes of a message: of a NDEFMessage, of Web NFC's, or of what makes one there. Each record has one chunk. Throws NdefError where

@@ -1,5 +1,6 @@
-// Messages of bytes that arrive in parts.
-import { joined, octets } from "./given.js";
+// Messages of bytes that arrive in parts. A stream is a pair of a readable and a writable one: a TransformStream drops the messages before a
+// refused byte that nobody has read yet.
+import { joined, octets } from "./bytes.js";
 import { Ndef } from "./ndef.js";
 import { NdefError, library, optionsOf } from "./library.js";
 import { messageOf } from "./message.js";

@@ -1,5 +1,5 @@
 // What the payloads of records mean, each as a plain object. The library says where the parts of a payload lie.
-import { strictUtf8, utf8 } from "./given.js";
+import { strictUtf8, utf8 } from "./bytes.js";
 import { Ndef } from "./ndef.js";
 import { accepted, library } from "./library.js";
 

@@ -95,8 +95,8 @@ static int hold(JNIEnv *env, span *spans, int count) {
 
 /* Writes the offset, the reason and the number of records to an array of Java. */
 static void give_checked(JNIEnv *env, jlongArray to, const ndef_checked *checked) {
-    const jlong told[] = { (jlong)checked->place, (jlong)checked->reason, (jlong)checked->records };
-    (*env)->SetLongArrayRegion(env, to, 0, 3, told);
+    const jlong numbers[] = { (jlong)checked->place, (jlong)checked->reason, (jlong)checked->records };
+    (*env)->SetLongArrayRegion(env, to, 0, 3, numbers);
 }
 
 static int get_limits(JNIEnv *env, jintArray from, ndef_limits *limits) {
@@ -278,7 +278,7 @@ typedef struct read_buffer {
     ndef_item items[FEW];
 } read_buffer;
 
-static void tell_head(jint *head, uint32_t status, const ndef_checked *said) {
+static void give_head(jint *head, uint32_t status, const ndef_checked *said) {
     head[0] = (jint)status, head[1] = (jint)said->place, head[2] = (jint)said->reason, head[3] = (jint)said->records;
 }
 
@@ -290,7 +290,7 @@ static uint32_t read_short(JNIEnv *env, const span *in, const ndef_limits *limit
     (*env)->GetByteArrayRegion(env, in->array, (jsize)in->at, (jsize)in->length, (jbyte *)bytes);
     uint32_t status = ndef_items(bytes, in->length, limits, &said, few.items, (ndef_size)(size < FEW ? size : FEW));
     jsize count = status == NDEF_OK ? (jsize)said.records : 0;
-    tell_head(few.head, status, &said);
+    give_head(few.head, status, &said);
     (*env)->SetIntArrayRegion(env, buffer, 0, HEAD + count * (jsize)(sizeof(ndef_item) / sizeof(jint)), few.head);
     return status;
 }
@@ -302,7 +302,7 @@ static void read_long(JNIEnv *env, span *in, const ndef_limits *limits, jintArra
     read_buffer *held = (*env)->GetPrimitiveArrayCritical(env, buffer, NULL);
     if (held != NULL) {
         uint32_t status = ndef_items(in->bytes, in->length, limits, &said, held->items, (ndef_size)size);
-        tell_head(held->head, status, &said);
+        give_head(held->head, status, &said);
         (*env)->ReleasePrimitiveArrayCritical(env, buffer, held, 0);
     }
     release(env, in, 1, JNI_ABORT);
@@ -530,14 +530,14 @@ METHOD(jintArray, hint)(JNIEnv *env, jclass type, jbyteArray bytes, jintArray wo
     release(env, &in, 1, JNI_ABORT);
     if (status != NDEF_OK) return NULL;
     const jint numbers[] = { (jint)found.hint, (jint)found.at, (jint)found.length };
-    jintArray told = (*env)->NewIntArray(env, 3);
-    if (told != NULL) (*env)->SetIntArrayRegion(env, told, 0, 3, numbers);
-    return told;
+    jintArray array = (*env)->NewIntArray(env, 3);
+    if (array != NULL) (*env)->SetIntArrayRegion(env, array, 0, 3, numbers);
+    return array;
 }
 
 /* ---- what payloads say */
 
-static int tell_simple(jint kind, const span *in, jint *out, uint32_t *status, ndef_checked *why) {
+static int read_simple(jint kind, const span *in, jint *out, uint32_t *status, ndef_checked *why) {
     ndef_text_parts text = { 0 };
     ndef_carrier_parts carrier = { 0 };
     ndef_alternative_parts alternative = { 0 };
@@ -566,7 +566,7 @@ static int tell_simple(jint kind, const span *in, jint *out, uint32_t *status, n
     }
 }
 
-static int tell_nested(jint kind, const span *in, uint32_t flags, jint *out, uint32_t *status, ndef_checked *why) {
+static int read_nested(jint kind, const span *in, uint32_t flags, jint *out, uint32_t *status, ndef_checked *why) {
     ndef_poster_parts poster = { 0 };
     ndef_request_parts request = { 0 };
     ndef_select_parts select = { 0 };
@@ -585,26 +585,26 @@ static int tell_nested(jint kind, const span *in, uint32_t flags, jint *out, uin
             *status = ndef_select(in->bytes, in->length, flags, &select, why);
             out[0] = (jint)select.major, out[1] = (jint)select.minor;
             return 2;
-        default: return tell_simple(kind, in, out, status, why);
+        default: return read_simple(kind, in, out, status, why);
     }
 }
 
-METHOD(jintArray, tell)(JNIEnv *env, jclass type, jint kind, jbyteArray payload, jint flags, jlongArray why) {
+METHOD(jintArray, numbers)(JNIEnv *env, jclass type, jint kind, jbyteArray payload, jint flags, jlongArray why) {
     jint out[6];
     uint32_t status;
     ndef_checked said = { 0, 0, 0 };
     span in = find_all(env, payload);
     (void)type;
     if (!hold(env, &in, 1)) return NULL;
-    int count = tell_nested(kind, &in, (uint32_t)flags, out, &status, &said);
+    int count = read_nested(kind, &in, (uint32_t)flags, out, &status, &said);
     release(env, &in, 1, JNI_ABORT);
     if (status != NDEF_OK) {
         give_checked(env, why, &said);
         return NULL;
     }
-    jintArray told = (*env)->NewIntArray(env, count);
-    if (told != NULL) (*env)->SetIntArrayRegion(env, told, 0, count, out);
-    return (*env)->ExceptionCheck(env) ? NULL : told;
+    jintArray array = (*env)->NewIntArray(env, count);
+    if (array != NULL) (*env)->SetIntArrayRegion(env, array, 0, count, out);
+    return (*env)->ExceptionCheck(env) ? NULL : array;
 }
 
 /* ---- checks of bytes that arrive in parts */
@@ -620,7 +620,7 @@ METHOD(jint, begin)(JNIEnv *env, jclass type, jintArray limits, jlongArray state
 }
 
 /* Feeds bytes that don't move, or those of the span. */
-static jint feed(JNIEnv *env, jlongArray state, const uint8_t *bytes, ndef_size length, span *input, jlongArray told) {
+static jint feed(JNIEnv *env, jlongArray state, const uint8_t *bytes, ndef_size length, span *input, jlongArray checked) {
     ndef_checker checker;
     ndef_checked out = { 0, 0, 0 };
     (*env)->GetLongArrayRegion(env, state, 0, CHECKER_WORDS, (jlong *)checker.words);
@@ -630,20 +630,20 @@ static jint feed(JNIEnv *env, jlongArray state, const uint8_t *bytes, ndef_size 
     if (input != NULL) release(env, input, 1, JNI_ABORT);
     (*env)->SetLongArrayRegion(env, state, 0, CHECKER_WORDS, (const jlong *)checker.words);
     if ((*env)->ExceptionCheck(env)) return NDEF_BAD_ARGUMENT;
-    give_checked(env, told, &out);
+    give_checked(env, checked, &out);
     return (jint)status;
 }
 
 METHOD(jint, feed)(JNIEnv *env, jclass type, jlongArray state, jbyteArray bytes, jint at, jint length,
-                   jlongArray told) {
+                   jlongArray checked) {
     span input;
     (void)type;
     if (!find_part(env, &input, bytes, at, length)) return NDEF_BAD_ARGUMENT;
-    return feed(env, state, NULL, input.length, &input, told);
+    return feed(env, state, NULL, input.length, &input, checked);
 }
 
 METHOD(jint, feedDirect)(JNIEnv *env, jclass type, jlongArray state, jobject buffer, jint at, jint length,
-                         jlongArray told) {
+                         jlongArray checked) {
     const uint8_t *bytes = (*env)->GetDirectBufferAddress(env, buffer);
     jlong capacity = (*env)->GetDirectBufferCapacity(env, buffer);
     (void)type;
@@ -651,7 +651,7 @@ METHOD(jint, feedDirect)(JNIEnv *env, jclass type, jlongArray state, jobject buf
         raise(env, "java/lang/IndexOutOfBoundsException", "the buffer has fewer bytes");
         return NDEF_BAD_ARGUMENT;
     }
-    return feed(env, state, bytes != NULL ? bytes + at : NULL, (ndef_size)length, NULL, told);
+    return feed(env, state, bytes != NULL ? bytes + at : NULL, (ndef_size)length, NULL, checked);
 }
 
 /* ---- names */

@@ -49,7 +49,7 @@ def _octets(name: str, is_hex: bool) -> bytes:
     return bytes.fromhex(digits.decode('ascii'))
 
 
-def _told_of(name: str, words: argparse.Namespace, before: str) -> int:
+def _status_of(name: str, words: argparse.Namespace, before: str) -> int:
     """Prints what is asked of a file; the status."""
     try:
         for line in COMMANDS[words.command](_octets(name, words.hex), words.json):
@@ -97,7 +97,7 @@ def main(arguments: Optional[List[str]] = None) -> int:
         sys.stdout.reconfigure(errors='backslashreplace')
     try:
         many = len(words.files) > 1
-        status = max(_told_of(name, words, name + ': ' if many else '') for name in words.files)
+        status = max(_status_of(name, words, name + ': ' if many else '') for name in words.files)
         sys.stdout.flush()
         return status
     except (OSError, MemoryError) as error:

@@ -54,9 +54,9 @@ def fields(octets: Octets, profile: str = 'strict') -> List[Field]:
     given, within = given_of(octets, profile)
     if not given:
         return []
-    checked, told = library.fields(given, within)
+    checked, parts = library.fields(given, within)
     listed = [Field(part.at, part.length, part.depth, library.field_name(part.name), given[part.at:part.at + part.length])
-              for part in told]
+              for part in parts]
     if checked.reason:
         error = library.refused_octets(checked, given, within)
         error.fields = listed

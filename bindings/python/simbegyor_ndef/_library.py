@@ -26,6 +26,7 @@ FIRST, LAST = interface.WRITE_FIRST, interface.WRITE_LAST
 REQUEST, SELECT = interface.REQUEST, interface.SELECT
 EMPTY, UNKNOWN = interface.TNF_EMPTY, interface.TNF_UNKNOWN
 PAYLOAD_TOO_LARGE = interface.REASON_PAYLOAD_TOO_LARGE
+BEGINS, END_OF_INPUT = (interface.REASON_BEGIN_MISSING, interface.REASON_BEGIN_AGAIN), interface.REASON_END_OF_INPUT
 U32_END = 1 << 32
 
 NO_FLAGS = u32(0)
@@ -50,7 +51,7 @@ RecordParts, FieldParts = interface.Record, interface.Field
 record_fields = struct.Struct('@10N2I').unpack_from
 text_fields = struct.Struct('@4NI').unpack_from
 
-# A block is a Checked and after it the items of a message, of which a desk has a few. The fields of the first item; and of a block the number
+# A block is a Checked and after it the items of a message, of which a scratch has a few. The fields of the first item; and of a block the number
 # of records, with the length of the first one's id and the parts of its value.
 FEW_ITEMS = 8
 _HEAD, _ITEM = ctypes.sizeof(Checked), ctypes.sizeof(interface.Item)
@@ -76,36 +77,36 @@ def all_items(block: bytearray, count: int) -> Iterator[Tuple[int, ...]]:
 
 # A Checked and a reference to it, the block that it begins and a reference to the items there; then octets and a reference to them, in which
 # a RecordParts or a TextParts lies.
-Desk = Tuple[Checked, Any, bytearray, Any, bytearray, Any]
+Scratch = Tuple[Checked, Any, bytearray, Any, bytearray, Any]
 
-# Desks that nobody works at now. Who needs one takes it out, so that no two threads share one, and puts it back.
-desks: Deque[Desk] = collections.deque()
-_MOST_DESKS = 16
+# Scratches that nobody uses now. Who needs one takes it out, so that no two threads share one, and puts it back.
+pool: Deque[Scratch] = collections.deque()
+_MOST_POOLED = 16
 
 
-def new_desk() -> Desk:
-    """A new desk."""
+def new_scratch() -> Scratch:
+    """A new scratch."""
     block, octets = new_block(FEW_ITEMS), bytearray(ctypes.sizeof(RecordParts))
     checked = Checked.from_buffer(block)
     return checked, byref(checked), block, items_in(block), octets, byref(RecordParts.from_buffer(octets))
 
 
-# These two take a desk out, where there is one, and put it back. Python calls a bound method faster than it looks one up.
-pop_desk, push_desk = desks.pop, desks.append
+# These two take a scratch out, where there is one, and put it back. Python calls a bound method faster than it looks one up.
+pop_scratch, push_scratch = pool.pop, pool.append
 
 
-def taken_desk() -> Desk:
-    """A desk, taken out or new."""
+def take_scratch() -> Scratch:
+    """A scratch, taken out or new."""
     try:
-        return pop_desk()
+        return pop_scratch()
     except IndexError:
-        return new_desk()
+        return new_scratch()
 
 
-def put_back(desk: Desk) -> None:
-    """Puts back the desk of a generator. A program may have begun many at once, and not all of their desks are kept."""
-    if len(desks) < _MOST_DESKS:
-        push_desk(desk)
+def put_back(scratch: Scratch) -> None:
+    """Puts back the scratch of a generator. A program may have begun many at once, and the pool keeps only some."""
+    if len(pool) < _MOST_POOLED:
+        push_scratch(scratch)
 
 
 _path = os.path.join(os.path.dirname(os.path.abspath(__file__)), library_name())
@@ -126,8 +127,8 @@ def _loaded(load: Callable[[str], Any]) -> interface.Calls:
 
 
 try:
-    # Other threads run while a call looks at a whole message; the other calls are too short for that.
-    _long, _short = _loaded(ctypes.CDLL), _loaded(ctypes.PyDLL)
+    # Other threads run while a call looks at a whole message; the other calls are too short for that. PyPy has no PyDLL.
+    _long, _short = _loaded(ctypes.CDLL), _loaded(getattr(ctypes, 'PyDLL', ctypes.CDLL))
 except OSError as missing:
     raise ImportError('simbegyor_ndef needs the library for C, for this machine, at %s' % _path) from missing
 
@@ -172,10 +173,10 @@ writer_begin = _short.writer_begin
 writer_next = _long.writer_next
 
 
-@functools.lru_cache
+@functools.lru_cache(typed=True)
 def limits(payload_size: int, flags: int) -> Any:
     """A reference to the limits for usual tags, but with this limit of a payload, 1 to 4294967295, and these flags."""
-    if not isinstance(payload_size, int) or not 1 <= payload_size < U32_END:
+    if not isinstance(payload_size, int) or isinstance(payload_size, bool) or not 1 <= payload_size < U32_END:
         raise ValueError('MAX_PAYLOAD_SIZE is 1 to %d, not %r' % (U32_END - 1, payload_size))
     out = Limits()
     _default_limits(byref(out))
@@ -195,10 +196,10 @@ class _Buffer:
     def __init__(self, size: int) -> None:
         self.octets: Any = (ctypes.c_char * size)()
         self.size, self.count = size_of(size), _size()
-        self.told = byref(self.count)
+        self.count_ref = byref(self.count)
 
 
-# Rooms that no call uses now. A call takes one out and puts it back, so that no two threads share one.
+# Buffers that no call uses now. A call takes one out and puts it back, so that no two threads share one.
 _USUAL = 1024
 # What is written beside the octets that a call is given: the head of a record, or a language code.
 _MORE = 128
@@ -214,12 +215,12 @@ def _buffer(size: int) -> _Buffer:
         return _Buffer(_USUAL)
 
 
-def put(call: Callable[..., int], *arguments: Any, given: int = 0, behind: Tuple[Any, ...] = ()) -> Tuple[int, bytes]:
+def put(call: Callable[..., int], *arguments: Any, given: int = 0, rest: Tuple[Any, ...] = ()) -> Tuple[int, bytes]:
     """The status of the call, and what it writes to its buffer. A buffer for the octets that the call is given is tried first."""
     size = given + _MORE
     while True:
         buffer = _buffer(size)
-        status = call(*arguments, buffer.octets, buffer.size, buffer.told, *behind)
+        status = call(*arguments, buffer.octets, buffer.size, buffer.count_ref, *rest)
         count = buffer.count.value
         octets: bytes = buffer.octets[:count] if status == OK else b''
         if size <= _USUAL:
@@ -320,8 +321,8 @@ def fields(octets: bytes, within: Any) -> Tuple[Checked, List[Any]]:
 
 def parts_of_references(payload: bytes, count: int) -> List[Any]:
     """Where the references of an alternative carrier lie; their number is given."""
-    parts, told = (Part * count)(), _size()
-    references(payload, size_of(len(payload)), parts, size_of(count), byref(told))
+    parts, total = (Part * count)(), _size()
+    references(payload, size_of(len(payload)), parts, size_of(count), byref(total))
     return list(parts)
 
 

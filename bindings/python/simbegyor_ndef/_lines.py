@@ -83,9 +83,9 @@ def _remark(field: Field, accepted: bool) -> Optional[str]:
     return field_warning(field.name, field.octets) if accepted else None
 
 
-def _field_lines(at: int, told: List[Field], accepted: bool) -> Iterator[str]:
+def _field_lines(at: int, found: List[Field], accepted: bool) -> Iterator[str]:
     """The lines of the fields of the message that begins at a place; with warnings where it is accepted."""
-    for field in told:
+    for field in found:
         digits = [' '.join('%02x' % octet for octet in field.octets[start:start + _IN_A_LINE])
                   for start in range(0, field.length, _IN_A_LINE)]
         indent = 2 * field.depth * ' '
@@ -120,20 +120,20 @@ def _accepted_object(count: int, at: int, octets: bytes, records: int) -> Dict[s
 def explained(octets: bytes, as_json: bool) -> Iterator[Line]:
     """A line for each field, with its octets, and for what is strange; of a message that is refused, for the fields before the
     refused octet."""
-    count = behind = 0
+    count = end = 0
     try:
-        for count, (at, behind, records) in enumerate(_messages(octets), 1):
-            accepted = (count, at, octets[at:behind], len(records))
+        for count, (at, end, records) in enumerate(_messages(octets), 1):
+            accepted = (count, at, octets[at:end], len(records))
             if as_json:
                 yield _accepted_object(*accepted)
             else:
                 yield from _accepted_lines(*accepted)
     except DecodeError as error:
-        _look_again(error, octets, behind)
+        _look_again(error, octets, end)
         if as_json:
-            yield {'message': count + 1, 'at': behind, 'fields': [_field_object(behind, field, False) for field in error.fields]}
+            yield {'message': count + 1, 'at': end, 'fields': [_field_object(end, field, False) for field in error.fields]}
         else:
-            yield from _field_lines(behind, error.fields, False)
+            yield from _field_lines(end, error.fields, False)
             yield from ('%08x  %02x  ^' % (error.place, octet) for octet in octets[error.place:error.place + 1])
         raise
 

@@ -1,4 +1,4 @@
-"""This module under the name of nfcpy's ndeflib, `ndef`."""
+"""This module under the name of nfcpy's ndeflib, `ndef`: only where a program asks for it, since both may be installed."""
 from __future__ import annotations
 
 import sys

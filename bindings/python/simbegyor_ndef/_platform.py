@@ -4,10 +4,10 @@ import sys
 
 
 def library_name(platform: str = sys.platform) -> str:
-    """The name of the library's file on a platform, as sys.platform names it."""
+    """The name of the library's file on a platform, as sys.platform names it. Python takes none of them for a module of its own."""
     if platform in ('win32', 'cygwin'):
         return 'ndef.dll'
-    return 'libndef.dylib' if platform == 'darwin' else 'libndef.so'
+    return 'libndef.dylib' if platform == 'darwin' else 'libndef.so.1'
 
 
 def asked_for(path: str) -> str:

@@ -49,9 +49,9 @@ class Outgoing:
         """Why a decoder refuses the message with this record. The sentence is that of the record alone, where it is refused alone."""
         number, wanted = self.checked.reason, None
         if record._is_kept:
-            alone, checked = record._written(library.FIRST | library.LAST, 0), library.Checked()
-            library.check(alone, library.size_of(len(alone)), self.limits, library.byref(checked))
-            wanted = library.why(alone, self.limits) if checked.reason == number else None
+            single, checked = record._written(library.FIRST | library.LAST, 0), library.Checked()
+            library.check(single, library.size_of(len(single)), self.limits, library.byref(checked))
+            wanted = library.why(single, self.limits) if checked.reason == number else None
         return EncodeError(wanted or library.reason_sentence(number), self.place, library.reason_name(number), number, self.count,
                            self.checked.place - self.place)
 

@@ -56,7 +56,7 @@ class DecodeError(Exception):
         return type(self), self.args, {**vars(self), **said}
 
     def __str__(self) -> str:
-        return 'refused at %d: %s' % (self.place, _one_line(self.reason))
+        return _line(self.place, self.reason, self.number)
 
 
 class EncodeError(Exception):
@@ -76,9 +76,14 @@ class EncodeError(Exception):
         self.what, self.place, self.reason, self.number, self.record, self.at = what, place, reason, number, record, at
 
     def __str__(self) -> str:
-        if self.at is not None:
-            return 'record %s refused at its octet %d: %s: %s' % (self.record, self.at, self.reason, _one_line(self.what))
-        return '%s, at %d: %s' % (_one_line(self.what), self.place, self.reason)
+        record = '' if self.record is None else 'record %d: ' % self.record
+        return record + ('%s: %s' % (self.reason, _one_line(self.what)) if self.at is None else _line(self.at, self.reason, self.number))
+
+
+def _line(place: int, reason: str, number: int) -> str:
+    """A refusal in one line, as each language prints it: what its reason means stands last."""
+    from . import _library
+    return 'refused at %d: %s' % (place, '%s: %s' % (reason, _library.reason_sentence(number)) if number else _one_line(reason))
 
 
 def _one_line(text: object) -> str:

@@ -293,8 +293,12 @@ class _Handover(GlobalRecord):
 
     def _encode_payload(self) -> bytes:
         message = b''.join(message_encoder(self._records, unchecked=True))
-        return library.written('no handover has these parts', library.write_handover, self._number, *self._version, message,
+        return library.written(self._fault(), library.write_handover, self._number, *self._version, message,
                                library.size_of(len(message)), given=len(message), raised=EncodeError)
+
+    def _fault(self) -> str:
+        """What is wrong where no handover has these parts."""
+        return 'records: no handover has these'
 
     @classmethod
     def _decode_payload(cls, octets: bytes, errors: str) -> Any:
@@ -309,7 +313,7 @@ class _Handover(GlobalRecord):
     def _carriers_shown(self) -> str:
         return ''.join(', %r' % ((power, reference, *auxiliary),) for power, reference, auxiliary in self.alternative_carriers)
 
-    def _carriers_told(self) -> str:
+    def _carriers_text(self) -> str:
         return ''.join(' Alternative Carrier ' + format(record, 'data') for record in self._records
                        if isinstance(record, AlternativeCarrierRecord))
 
@@ -329,6 +333,9 @@ class HandoverRequestRecord(_Handover):
     def __init__(self, version: Union[str, int] = '1.3', crn: Optional[int] = None, *alternative_carrier: Tuple[str, ...]) -> None:
         super().__init__(version, alternative_carrier)
         self.collision_resolution_number = crn
+
+    def _fault(self) -> str:
+        return 'collision_resolution_number: it is None' if self._collision() is None else super()._fault()
 
     def _collision(self) -> Optional[CollisionResolutionRecord]:
         return next((record for record in self._records if isinstance(record, CollisionResolutionRecord)), None)
@@ -354,7 +361,7 @@ class HandoverRequestRecord(_Handover):
             return '%r, %r%s' % (self.version_string, self.collision_resolution_number, self._carriers_shown())
         if form == 'data':
             return "Version '%s' Collision Resolution Number '%s'%s" % (
-                self.version_string, self.collision_resolution_number, self._carriers_told())
+                self.version_string, self.collision_resolution_number, self._carriers_text())
         return super().__format__(form)
 
 
@@ -391,7 +398,7 @@ class HandoverSelectRecord(_Handover):
             return '%r, %r%s' % (self.version_string, self.error and tuple(self.error), self._carriers_shown())
         if form == 'data':
             error = " Error Reason '%d' Data %r" % self.error if self.error else ''
-            return "Version '%s'%s%s" % (self.version_string, error, self._carriers_told())
+            return "Version '%s'%s%s" % (self.version_string, error, self._carriers_text())
         return super().__format__(form)
 
 

@@ -1,13 +1,18 @@
-"""Messages: their records in turn, and the octets of records in turn."""
+"""Messages: their records in turn, and the octets of records in turn.
+
+One call checks a message and gives all its records, and where the parts of texts and URIs lie; a value is made where an attribute is
+first asked for. Most messages have one record, which `lone_record` reads by itself. Names that a loop needs are kept in locals and
+tuples: Python takes a method of an imported name or an attribute of a class for the slow case."""
 from __future__ import annotations
 
+import errno
 import io
 from typing import Any, BinaryIO, Dict, Generator, Iterable, Iterator, Mapping, Optional, Tuple, Type, Union, overload
 
 from . import _library as library
 from . import layout
-from ._library import FEW_ITEMS, OK, SIZES, U32_END, USUAL_SIZES, Desk, first_item, items_short, lone_item, new_desk, pop_desk, push_desk
-from ._library import record_at, record_fields, size_of, taken_desk
+from ._library import FEW_ITEMS, OK, SIZES, U32_END, USUAL_SIZES, Scratch, first_item, items_short, lone_item, new_scratch, pop_scratch
+from ._library import push_scratch, record_at, record_fields, size_of, take_scratch
 from ._writing import Outgoing, in_parts
 from .errors import DecodeError, left_out
 from .record import READ_LATE, Parts, Record, number_of, parts_of
@@ -20,13 +25,16 @@ _new = object.__new__
 # A record that ends a message. Fed to a checker, it shows whether another record may begin there.
 _ENDING = Record()._written(library.LAST, 0)
 _FEW = SIZES[FEW_ITEMS]
+# The bits of a header that say that a record is the first or the last, and the reasons for which only they are wrong.
+_MB, _ME = 0x80, 0x40
+_BEGINS, _END_OF_INPUT = library.BEGINS, library.END_OF_INPUT
 # The types of the values whose parts an item has, by their forms: a text in UTF-16 has to be converted.
 _NONE: Parts = (-1, b'')
 _FORMS = _NONE, parts_of('urn:nfc:wkt:T'), _NONE, parts_of('urn:nfc:wkt:U')
 Known = Mapping[Parts, Type[Record]]
-Told = Optional[Dict[Type[Record], Any]]
-# The limits of a message, the classes that are known, and what `records_of` is given as `told`.
-Reading = Tuple[Any, Known, Told]
+Values = Optional[Dict[Type[Record], Any]]
+# The limits of a message, the classes that are known, and what `records_of` is given as `values`.
+Reading = Tuple[Any, Known, Values]
 # The fields of a RecordParts, or of an item.
 Fields = Tuple[int, ...]
 # How messages are read where no types are given, by the limit of a payload.
@@ -87,27 +95,52 @@ def message_decoder(stream_or_bytes: Union[bytes, bytearray, memoryview, BinaryI
 
     `known_types` are classes by the spelling of their type, in place of those that are registered; with {} every payload is
     data. With `errors='relax'` a payload that is none of its type doesn't end the message: it is given as a plain record of that
-    type, whose `refusal` says where in the payload, and why. All else is refused as with 'strict'.
+    type, whose `refusal` says where in the payload, and why. Of octets, not of a stream, MB and ME may be missing then, or MB
+    be set again. All else is refused as with 'strict'.
     """
     if errors not in ('strict', 'relax'):
         raise left_out('errors=%r' % errors) if errors == 'ignore' else ValueError("errors is 'strict' or 'relax', not %r" % (errors,))
-    limits, known, told = known_of(known_types, errors == 'relax')
+    limits, known, values = known_of(known_types, errors == 'relax')
     given: Any = stream_or_bytes
     octets = given if type(given) is bytes else _octets_of(given)
     if octets is not None:
+        if errors == 'relax':
+            octets = _mended(octets, limits)
         try:
-            desk = pop_desk()
+            scratch = pop_scratch()
         except IndexError:
-            desk = new_desk()
-        record = lone_record(octets, desk, limits, known, told)
+            scratch = new_scratch()
+        record = lone_record(octets, scratch, limits, known, values)
         if record is not None:
-            push_desk(desk)
+            push_scratch(scratch)
             yield record
             return
-        records = _from_octets(octets, desk, limits, known, told)
+        records = _from_octets(octets, scratch, limits, known, values)
     else:
-        records = _from_stream(given, limits, known, told)
+        records = _from_stream(given, limits, known, values)
     yield from list(records) if whole else records
+
+
+def _mended(octets: bytes, limits: Any) -> bytes:
+    """The octets with MB and ME as the library wants them, if that makes them a message; else as they are."""
+    changed, size, checked = bytearray(octets), library.size_of(len(octets)), library.Checked()
+    while library.check(library.first_of(changed), size, limits, library.byref(checked)) == library.REFUSED:
+        if checked.reason in _BEGINS:
+            changed[checked.place] ^= _MB
+            continue
+        last = _last_of(bytes(changed), size)
+        if checked.reason != _END_OF_INPUT or last is None:
+            return octets
+        changed[last] |= _ME
+    return bytes(changed)
+
+
+def _last_of(octets: bytes, size: Any) -> Optional[int]:
+    """Where the record begins with which the octets end, if there is one."""
+    parts, end = library.RecordParts(), 0
+    while library.record_at(octets, size, size_of(end), library.byref(parts)) == OK:
+        end = parts.end
+    return parts.at if parts.end == len(octets) else None
 
 
 def _octets_of(given: Any) -> Optional[bytes]:
@@ -119,10 +152,10 @@ def _octets_of(given: Any) -> Optional[bytes]:
     raise TypeError('octets or a stream of octets is needed, not %s' % type(given).__name__)
 
 
-def lone_record(octets: bytes, desk: Desk, limits: Any, known: Known, told: Told) -> Optional[Record]:
-    """The record of a message of one record, as most are; None for others. The desk has what a check gives for the octets, and
+def lone_record(octets: bytes, scratch: Scratch, limits: Any, known: Known, values: Values) -> Optional[Record]:
+    """The record of a message of one record, as most are; None for others. The scratch has what a check gives for the octets, and
     where they are a message of few records, their items."""
-    _, why, block, items, _, _ = desk
+    _, why, block, items, _, _ = scratch
     count = len(octets)
     if count < USUAL_SIZES:
         status = items_short(octets, SIZES[count], limits, why, items, _FEW)
@@ -138,10 +171,10 @@ def lone_record(octets: bytes, desk: Desk, limits: Any, known: Known, told: Told
     if form and not id_length:
         record_class = known.get(_FORMS[form])
         if record_class in READ_LATE:
-            made = _new(record_class)
-            made._unread = number, octets[language_at:language_at + language_length], octets[text_at:text_at + text_length]
-            return made
-    return record_of(octets, _parts(first_item(block)), known, 0, True, told)
+            unread = _new(record_class)
+            unread._unread = number, octets[language_at:language_at + language_length], octets[text_at:text_at + text_length]
+            return unread
+    return record_of(octets, _parts(first_item(block)), known, 0, True, values)
 
 
 def _parts(item: Fields) -> Fields:
@@ -150,27 +183,27 @@ def _parts(item: Fields) -> Fields:
     return at, end, type_at, type_length, payload_at - id_length, id_length, payload_at, length, length, chunks, tnf, 0
 
 
-def records_from(octets: bytes, desk: Desk, limits: Any, known: Known, told: Told) -> Iterator[Record]:
-    """The records of a message of which the desk has what `lone_record` leaves there, and is free then. The message is walked where its places
+def records_from(octets: bytes, scratch: Scratch, limits: Any, known: Known, values: Values) -> Iterator[Record]:
+    """The records of a message of which the scratch has what `lone_record` leaves there, and is free then. The message is walked where its places
     don't fit items."""
-    checked, why, block, _, _, _ = desk
+    checked, why, block, _, _, _ = scratch
     count, size = checked.records, len(octets)
     if size >= U32_END:
-        return records_of(octets, 0, checked.place, known, told)
+        return records_of(octets, 0, checked.place, known, values)
     if count > FEW_ITEMS:
         block = library.new_block(count)
         library.items(octets, size_of(size), limits, why, library.items_in(block), size_of(count))
-    return _of_items(octets, library.all_items(block, count), known, told)
+    return _of_items(octets, library.all_items(block, count), known, values)
 
 
-def _of_items(octets: bytes, items: Iterable[Fields], known: Known, told: Told) -> Iterator[Record]:
+def _of_items(octets: bytes, items: Iterable[Fields], known: Known, values: Values) -> Iterator[Record]:
     """The records with these items."""
     classes = [record_class if record_class in READ_LATE else None for record_class in map(known.get, _FORMS)]
     for item in items:
         _, _, _, _, _, _, id_length, payload_at, _, _, form, number, language_at, language_length, text_at, text_length = item
         record_class = classes[form]
         if record_class is None:
-            yield record_of(octets, _parts(item), known, 0, not item[0], told)
+            yield record_of(octets, _parts(item), known, 0, not item[0], values)
             continue
         made = _new(record_class)
         made._unread = number, octets[language_at:language_at + language_length], octets[text_at:text_at + text_length]
@@ -179,27 +212,29 @@ def _of_items(octets: bytes, items: Iterable[Fields], known: Known, told: Told) 
         yield made
 
 
-def _from_octets(octets: bytes, desk: Desk, limits: Any, known: Known, told: Told) -> Iterator[Record]:
-    """The records of the message of several with which the octets begin, or of the one that is refused: the desk has what
+def _from_octets(octets: bytes, scratch: Scratch, limits: Any, known: Known, values: Values) -> Iterator[Record]:
+    """The records of the message of several with which the octets begin, or of the one that is refused: the scratch has what
     `lone_record` leaves there."""
-    checked = desk[0]
+    checked = scratch[0]
     place, error = checked.place, library.refused_octets(checked, octets, limits) if checked.reason and octets else None
-    records = iter(()) if checked.reason else records_from(octets, desk, limits, known, told)
-    # From here on another thread may work at the desk.
-    push_desk(desk)
-    return _refused(octets, place, error, known, told) if error else records
+    records = iter(()) if checked.reason else records_from(octets, scratch, limits, known, values)
+    # From here on another thread may use the scratch.
+    push_scratch(scratch)
+    return _refused(octets, place, error, known, values) if error else records
 
 
-def _refused(octets: bytes, place: int, error: DecodeError, known: Known, told: Told) -> Iterator[Record]:
+def _refused(octets: bytes, place: int, error: DecodeError, known: Known, values: Values) -> Iterator[Record]:
     """The records before the octet at a place that is refused. A message goes on with each octet before it; so each record that
     ends there is given."""
-    yield from records_of(octets, 0, place, known, told)
+    yield from records_of(octets, 0, place, known, values)
     raise error
 
 
 def _read(stream: BinaryIO, size: int) -> bytes:
-    """At most this number of octets of the stream; none where it ends."""
-    octets = stream.read(size) or b''
+    """At most this number of octets of the stream; none where it ends. BlockingIOError where it has none yet."""
+    octets: Optional[bytes] = stream.read(size)
+    if octets is None:
+        raise BlockingIOError(errno.EAGAIN, 'the stream has no octets yet')
     if not isinstance(octets, (bytes, bytearray)):
         raise TypeError('a stream of octets is needed, not of %s' % type(octets).__name__)
     return bytes(octets)
@@ -242,9 +277,9 @@ class _Incoming:
         if status != library.MORE:
             return True
         library.copy(self.trial, self.checker)
-        told = library.feed(library.byref(self.trial), _ENDING, library.size_of(len(_ENDING)), library.byref(self.tried))
+        fed = library.feed(library.byref(self.trial), _ENDING, library.size_of(len(_ENDING)), library.byref(self.tried))
         place: int = self.tried.place
-        return told == library.OK and place == self.before + len(self.taken) + len(_ENDING)
+        return fed == library.OK and place == self.before + len(self.taken) + len(_ENDING)
 
     def _is_whole(self) -> bool:
         """Whether a whole record is among the octets at hand, of those that are accepted."""
@@ -284,29 +319,29 @@ class _Incoming:
                 raise library.refused(self.checked)
 
 
-def _from_stream(stream: BinaryIO, limits: Any, known: Known, told: Told) -> Iterator[Record]:
+def _from_stream(stream: BinaryIO, limits: Any, known: Known, values: Values) -> Iterator[Record]:
     """The records of the message that the stream gives next. Each octet is taken with its record."""
     incoming, status = _Incoming(stream, limits), library.MORE
     while status == library.MORE:
         before = incoming.before
         octets, status = incoming.next_record()
         if octets:
-            yield record_of(octets, library.record_fields(incoming.parts), known, before, not before, told)
+            yield record_of(octets, library.record_fields(incoming.parts), known, before, not before, values)
 
 
-def records_of(octets: bytes, start: int, end: int, known: Known, told: Told) -> Iterator[Record]:
-    """The records of a message that has been checked and that lies between two places. `told` is None where payloads weren't
+def records_of(octets: bytes, start: int, end: int, known: Known, values: Values) -> Iterator[Record]:
+    """The records of a message that has been checked and that lies between two places. `values` is None where payloads weren't
     validated; else it has, for classes of which the library gave the first record's value with the whole, what it gave."""
-    desk, size, at = taken_desk(), size_of(end), start
-    _, _, _, _, buffer, out = desk
+    scratch, size, at = take_scratch(), size_of(end), start
+    _, _, _, _, buffer, out = scratch
     while at != end and record_at(octets, size, size_of(at), out) == OK:
         fields = record_fields(buffer)
-        yield record_of(octets, fields, known, 0, at == start, told)
+        yield record_of(octets, fields, known, 0, at == start, values)
         at = fields[1]
-    library.put_back(desk)
+    library.put_back(scratch)
 
 
-def record_of(octets: bytes, fields: Fields, known: Known, before: int, is_first: bool, told: Told) -> Record:
+def record_of(octets: bytes, fields: Fields, known: Known, before: int, is_first: bool, values: Values) -> Record:
     """The record with these parts, of octets that lie after this number of others in their message."""
     at, end, type_at, type_length, id_at, id_length, payload_at, part_length, length, chunks, tnf, _ = fields
     kind = tnf, octets[type_at:type_at + type_length]
@@ -317,11 +352,11 @@ def record_of(octets: bytes, fields: Fields, known: Known, before: int, is_first
     record_class = known.get(kind)
     if record_class is None:
         made = Record._made(kind, data)
-    elif record_class in READ_LATE and told is not None:
+    elif record_class in READ_LATE and values is not None:
         made = _new(record_class)
         made._unread = data
-    elif told and record_class in told:
-        made = record_class._of(told.pop(record_class))  # type: ignore[attr-defined]
+    elif values and record_class in values:
+        made = record_class._of(values.pop(record_class))  # type: ignore[attr-defined]
     else:
         try:
             made = record_class._from_payload(data)

@@ -86,12 +86,12 @@ def octets_of(value: Any, what: str) -> bytearray:
 
 def shown(octets: bytes) -> str:
     """The number of the octets and the first ten of them, as ndeflib prints them."""
-    told = '%d byte' % len(octets)
+    text = '%d byte' % len(octets)
     if octets:
-        told += " '%s'" % octets[:10].hex()
+        text += " '%s'" % octets[:10].hex()
     if len(octets) > 10:
-        told += ' ... %d more' % (len(octets) - 10)
-    return told
+        text += ' ... %d more' % (len(octets) - 10)
+    return text
 
 
 class Record:

@@ -1,7 +1,7 @@
 """Smart posters (Smart Poster Record Type Definition 1.0)."""
 from __future__ import annotations
 
-from typing import Any, Dict, List, Mapping, Optional, Type, TypeVar, Union
+from typing import Any, Dict, Iterable, List, Mapping, Optional, Tuple, Type, TypeVar, Union
 
 from . import _library as library
 from .errors import DecodeError
@@ -32,6 +32,14 @@ def _parts_within(spelled: str, octets: bytes) -> library.PosterParts:
     except DecodeError as error:
         before = sum(map(len, message)) - len(octets)
         raise DecodeError(error.reason, max(error.place - before, 0), error.number) from None
+
+
+def _by_name(given: Any, one: Any, usual: str, what: str) -> Iterable[Tuple[str, Any]]:
+    """What is given by names, or one by the usual name."""
+    named = {usual: given} if isinstance(given, one) else given or {}
+    if not isinstance(named, Mapping):
+        raise TypeError('%s, or a dict of them, not %s' % (what, type(given).__name__))
+    return named.items()
 
 
 class ActionRecord(LocalRecord):
@@ -186,9 +194,9 @@ class SmartposterRecord(GlobalRecord):
                  icon: Union[Octets, Mapping[str, Octets], None] = None, resource_size: Optional[int] = None,
                  resource_type: Optional[str] = None) -> None:
         self._records = [UriRecord(resource)]
-        for language, text in ({'en': title} if isinstance(title, str) else title or {}).items():
+        for language, text in _by_name(title, str, 'en', 'a title is a str'):
             self.set_title(text, language)
-        for kind, octets in ({'image/png': icon} if isinstance(icon, (bytes, bytearray)) else icon or {}).items():
+        for kind, octets in _by_name(icon, (bytes, bytearray), 'image/png', 'an icon is octets'):
             self.add_icon(kind, octets)
         self.action, self.resource_size, self.resource_type = action, resource_size, resource_type
 
@@ -307,8 +315,8 @@ class SmartposterRecord(GlobalRecord):
     def _decode_payload(cls, octets: bytes, errors: str) -> SmartposterRecord:
         parts = _parts_of(octets)
         made = cls.__new__(cls)
-        told: Dict[Type[Record], Any] = {ActionRecord: parts, SizeRecord: parts}
-        made._records = list(records_of(octets, 0, len(octets), cls._known_parts, told))
+        values: Dict[Type[Record], Any] = {ActionRecord: parts, SizeRecord: parts}
+        made._records = list(records_of(octets, 0, len(octets), cls._known_parts, values))
         return made
 
     def __format__(self, form: str) -> str:
@@ -317,9 +325,9 @@ class SmartposterRecord(GlobalRecord):
                                                self.resource_type)
         if form == 'data':
             size = None if self.resource_size is None else '%d byte' % self.resource_size
-            told = [('Resource', self.resource.iri), ('Title', self.title), ('Action', self.action),
+            fields = [('Resource', self.resource.iri), ('Title', self.title), ('Action', self.action),
                     ('Icon', ', '.join(self.icons) or None), ('Size', size), ('Type', self.resource_type)]
-            return ' '.join("%s '%s'" % (word, value) for word, value in told if value is not None)
+            return ' '.join("%s '%s'" % (word, value) for word, value in fields if value is not None)
         return super().__format__(form)
 
 

@@ -5,7 +5,7 @@ import functools
 from typing import Any, Optional
 
 from . import _library as library
-from ._library import OK, push_desk, size_of, taken_desk, text_fields
+from ._library import OK, push_scratch, size_of, take_scratch, text_fields
 from .errors import EncodeError
 from .record import READ_LATE, GlobalRecord, Record, Unread, text_of
 
@@ -103,7 +103,7 @@ class TextRecord(GlobalRecord):
             _, language, text = given
             self._language, self._encoding, self._text = language.decode(), 'UTF-8', text.decode()
             return
-        checked, why, _, _, buffer, out = desk = taken_desk()
+        checked, why, _, _, buffer, out = scratch = take_scratch()
         octets: Any = given
         count = len(octets)
         size = size_of(count)
@@ -112,8 +112,8 @@ class TextRecord(GlobalRecord):
         language_at, language_length, at, length, is_utf16 = text_fields(buffer)
         text = octets[at:at + length]
         if is_utf16:
-            _, text = library.put(library.text_in_utf8, octets, size, given=2 * count, behind=(why,))
-        push_desk(desk)
+            _, text = library.put(library.text_in_utf8, octets, size, given=2 * count, rest=(why,))
+        push_scratch(scratch)
         self._language, self._encoding = octets[language_at:language_at + language_length].decode(), _ENCODINGS[is_utf16]
         self._text = text.decode()
 

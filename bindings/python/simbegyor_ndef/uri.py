@@ -83,11 +83,11 @@ class UriRecord(GlobalRecord):
             self._iri = library.uri_prefix(code) + rest.decode()
             return
         octets: Any = given
-        desk, count = library.taken_desk(), len(octets)
-        status, spelled = library.put(library.uri, octets, library.size_of(count), 0, given=count, behind=(desk[1],))
+        scratch, count = library.take_scratch(), len(octets)
+        status, spelled = library.put(library.uri, octets, library.size_of(count), 0, given=count, rest=(scratch[1],))
         if status != library.OK:
-            raise library.refused(desk[0])
-        library.push_desk(desk)
+            raise library.refused(scratch[0])
+        library.push_scratch(scratch)
         self._iri = spelled.decode()
 
     def __format__(self, form: str) -> str:

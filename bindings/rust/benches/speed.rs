@@ -1,4 +1,6 @@
-//! Times calls of the crate beside the same in plain Rust: `cargo bench`. Each time is the least of 40 runs.
+//! Times calls of the crate beside the same by hand: `cargo bench`. Each time is the least of 40 runs.
+mod by_hand;
+
 use simbegyor_ndef::*;
 use std::hint::black_box;
 use std::time::Instant;
@@ -15,106 +17,50 @@ fn time(name: &str, calls: u32, mut call: impl FnMut()) -> f64 {
     least
 }
 
-/// A record in plain Rust.
-struct ByHand<'a> {
-    tnf: u8,
-    kind: &'a [u8],
-    id: &'a [u8],
-    payload: &'a [u8],
+/// Prints the times of the same by the crate and by hand, and how many times as long the crate takes.
+fn beside<A, B>(name: &str, calls: u32, mut ours: impl FnMut() -> A, mut by_hand: impl FnMut() -> B) {
+    println!("{name}");
+    let ours = time("  by the crate", calls, || drop(black_box(ours())));
+    let by_hand = time("  by hand", calls, || drop(black_box(by_hand())));
+    println!("  the crate / by hand: {:.2}", ours / by_hand);
 }
 
-/// The record at the front of some bytes, if it is not chunked, and what follows it. The payload of a text is checked.
-fn record_by_hand(bytes: &[u8], is_first: bool) -> Option<(ByHand<'_>, bool, &[u8])> {
-    let (&[header, kind_length], rest) = bytes.split_first_chunk()?;
-    let tnf = header & 7;
-    if (header & 0x80 != 0) != is_first || header & 0x20 != 0 || tnf > 5 {
-        return None;
-    }
-    let (length, rest) = if header & 0x10 != 0 {
-        let (&length, rest) = rest.split_first()?;
-        (usize::from(length), rest)
-    } else {
-        let (&length, rest) = rest.split_first_chunk()?;
-        (u32::from_be_bytes(length) as usize, rest)
+/// The bytes of each text and URI of a message, by the crate.
+fn values(bytes: &[u8]) -> usize {
+    let value = |record: Record<'_>| match record.decode() {
+        Ok(Payload::Text(text)) => text.into_text().into_owned().len(),
+        Ok(Payload::Uri(uri)) => uri.to_uri().len(),
+        _ => 0,
     };
-    let (id_length, rest) = if header & 0x08 != 0 {
-        let (&length, rest) = rest.split_first()?;
-        (usize::from(length), rest)
-    } else {
-        (0, rest)
+    Message::parse(bytes).unwrap().records().map(value).sum()
+}
+
+/// The same by hand.
+fn values_by_hand(bytes: &[u8]) -> usize {
+    let value = |record: by_hand::Record<'_>| match record.kind {
+        b"T" => record.text().unwrap().into_owned().len(),
+        b"U" => record.uri().unwrap().len(),
+        _ => 0,
     };
-    let (kind, rest) = rest.split_at_checked(kind_length.into())?;
-    let (id, rest) = rest.split_at_checked(id_length)?;
-    let (payload, rest) = rest.split_at_checked(length)?;
-    match tnf {
-        0 if kind.len() + id.len() + payload.len() > 0 => return None,
-        5 if !kind.is_empty() => return None,
-        1..=4 if kind.is_empty() => return None,
-        1 if kind == b"T" => text_by_hand(payload).map(|_| ())?,
-        _ => {}
-    }
-    Some((ByHand { tnf, kind, id, payload }, header & 0x40 != 0, rest))
+    by_hand::parse(bytes, &by_hand::USUAL).unwrap().map(value).sum()
 }
 
-/// The language and the text of a payload in UTF-8.
-fn text_by_hand(payload: &[u8]) -> Option<(&str, &str)> {
-    let (&status, rest) = payload.split_first()?;
-    let (language, text) = rest.split_at_checked((status & 0x3F).into())?;
-    if status & 0xC0 != 0 || !language.is_ascii() {
-        return None;
-    }
-    Some((std::str::from_utf8(language).ok()?, std::str::from_utf8(text).ok()?))
-}
-
-/// Checks a message and looks at each of its records.
-fn look_by_hand(bytes: &[u8]) -> Option<usize> {
-    let (mut left, mut count) = (bytes, 0);
-    loop {
-        let (record, is_last, rest) = record_by_hand(left, count == 0)?;
-        black_box((record.tnf, record.kind, record.id, record.payload));
-        count += 1;
-        if is_last {
-            return Some(count);
-        }
-        left = rest;
-    }
-}
-
-/// The same by the crate.
-fn look(bytes: &[u8], limits: &Limits) -> Option<usize> {
-    let message = Message::parse_within(bytes, limits).ok()?;
-    for record in message.records() {
-        black_box((record.tnf(), record.kind(), record.id(), record.payload()));
-    }
-    Some(message.record_count())
-}
-
-/// The same by the crate, and each payload is decoded.
-fn decode(bytes: &[u8]) {
-    for record in &Message::parse(bytes).unwrap() {
-        if let Ok(Payload::Text(text)) = record.decode() {
-            black_box((text.language(), text.as_utf8()));
-        }
-    }
-}
-
-/// The times of a message, and how many times as long the crate takes as plain Rust.
+/// A message that is accepted: checked, looked at, and its values read.
 fn compare(name: &str, bytes: &[u8], calls: u32) {
-    let limits = Limits::new().with_payload(std::num::NonZeroU32::MAX);
-    println!("{name}, {} bytes", bytes.len());
-    let by_hand = time("  by hand: check and look at each record", calls, || {
-        black_box(look_by_hand(black_box(bytes)));
-    });
-    let ours = time("  Message::parse and look at each record", calls, || {
-        black_box(look(black_box(bytes), &limits));
-    });
-    time("  check alone", calls, || {
-        black_box(check(black_box(bytes), &limits)).ok();
-    });
-    println!("  parse and look / by hand: {:.2}", ours / by_hand);
+    let at = || black_box(bytes);
+    beside(&format!("{name}: check"), calls, || check(at(), &Limits::new()), || by_hand::check(at(), &by_hand::USUAL));
+    let look = |record: Record<'_>| record.payload_len();
+    let look_by_hand = |record: by_hand::Record<'_>| record.payload.len();
+    beside(
+        &format!("{name}: look at each record"),
+        calls,
+        || Message::parse(at()).unwrap().records().map(look).sum::<usize>(),
+        || by_hand::parse(at(), &by_hand::USUAL).unwrap().map(look_by_hand).sum::<usize>(),
+    );
+    beside(&format!("{name}: each value"), calls, || values(at()), || values_by_hand(at()));
 }
 
-/// A select with so many carriers, and a record for each.
+/// A select with this many carriers, and a record for each.
 fn handover(carriers: usize) -> Vec<u8> {
     let ids: Vec<String> = (0..carriers).map(|index| index.to_string()).collect();
     let select = ids
@@ -125,24 +71,37 @@ fn handover(carriers: usize) -> Vec<u8> {
     message.build().unwrap()
 }
 
+/// The links of a handover, and the record of each.
+fn links(carriers: usize) {
+    let bytes = handover(carriers);
+    let ours =
+        || Message::parse(black_box(&bytes)).unwrap().links().unwrap().filter(|link| link.record.is_some()).count();
+    let by_hand = || {
+        by_hand::check(black_box(&bytes), &by_hand::USUAL).unwrap();
+        by_hand::links(&bytes).unwrap().iter().filter(|link| link.1.is_some()).count()
+    };
+    assert_eq!((ours(), by_hand()), (carriers, carriers));
+    beside(&format!("the links of {carriers} carriers"), 1000, ours, by_hand);
+}
+
 fn reading() {
     let hello = b"\xD1\x01\x08T\x02enHello";
     compare("the text Hello", hello, 50_000);
-    time("  parse, look and decode", 50_000, || decode(black_box(hello)));
+    let poster =
+        SmartPoster::builder("http://www.example.com").title("en", "Title").action(Action::Do).build().unwrap();
+    compare("a poster", &MessageBuilder::new().record(poster).build().unwrap(), 50_000);
     let texts: MessageBuilder<'_> = (0..1000).map(|_| Text::new("en", "Hello, tag").unwrap()).collect();
-    let texts = texts.build().unwrap();
-    compare("1000 texts", &texts, 100);
-    time("  parse, look and decode", 100, || decode(black_box(&texts)));
-    for (name, text) in [("ASCII", "Hello there ".repeat(83333)), ("not ASCII", "Hallöchen ".repeat(90909))] {
-        let bytes = MessageBuilder::new().record(Text::new("de", &text).unwrap()).build().unwrap();
-        compare(&format!("one text, {name}"), &bytes, 10);
-    }
-    for carriers in [10, 100] {
-        let bytes = handover(carriers);
-        let message = Message::parse(&bytes).unwrap();
-        time(&format!("the links of {carriers} carriers"), 10, || {
-            assert_eq!(black_box(message.links().unwrap()).count(), carriers);
-        });
+    compare("1000 texts", &texts.build().unwrap(), 100);
+    links(2);
+    links(100);
+    for (name, refused) in [("cut", &hello[..11]), ("not UTF-8", b"\xD1\x01\x08T\x02enHell\xFF")] {
+        let at = || black_box(refused);
+        beside(
+            &format!("refused, {name}"),
+            50_000,
+            || check(at(), &Limits::new()),
+            || by_hand::check(at(), &by_hand::USUAL),
+        );
     }
 }
 

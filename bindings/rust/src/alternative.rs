@@ -1,14 +1,16 @@
 //! Alternative carriers of handovers.
 use crate::bytes::{Bytes, Quoted};
-use crate::calls;
-use crate::{promised, NumberError, Refusal};
+use crate::payload::check_payload;
+use crate::proved::ndef_format::Kind;
+use crate::proved::ndef_types::{AlternativeParts, Power};
+use crate::{NumberError, Profile, Refusal};
 use core::fmt;
 use core::iter::FusedIterator;
 
 #[cfg(feature = "alloc")]
-use crate::Part;
+use crate::calls;
 #[cfg(feature = "alloc")]
-use alloc::{vec, vec::Vec};
+use alloc::vec::Vec;
 
 /// The power state of a carrier (Connection Handover 1.2, Alternative Carrier record).
 #[derive(Clone, Copy, Debug, PartialEq, Eq, Hash)]
@@ -28,8 +30,13 @@ impl PowerState {
     /// The power states, in the order of their numbers.
     pub const ALL: &'static [PowerState] = &[Self::Inactive, Self::Active, Self::Activating, Self::Unknown];
 
-    fn of(number: u32) -> Self {
-        promised(Self::ALL.get(number as usize).copied().ok_or(number))
+    fn of(power: Power) -> Self {
+        match power {
+            Power::Inactive => Self::Inactive,
+            Power::Active => Self::Active,
+            Power::Activating => Self::Activating,
+            Power::Unknown => Self::Unknown,
+        }
     }
 
     /// Its number.
@@ -68,10 +75,7 @@ impl fmt::Display for PowerState {
 ///
 /// With the feature `alloc`, alternative carriers are equal if their power states and references are.
 #[derive(Clone)]
-pub struct AlternativeCarrier<'a> {
-    payload: Bytes<'a>,
-    parts: calls::AlternativeParts,
-}
+pub struct AlternativeCarrier<'a>(Bytes<'a>);
 
 impl<'a> AlternativeCarrier<'a> {
     /// The alternative carrier of the payload of an Alternative Carrier record.
@@ -80,43 +84,47 @@ impl<'a> AlternativeCarrier<'a> {
     ///
     /// The payload is not that of an alternative carrier. The offset counts from its first byte.
     pub fn parse(payload: &'a [u8]) -> Result<Self, Refusal> {
-        Self::of(payload.into())
+        check_payload(Kind::Alternative, Profile::Strict, payload)?;
+        Ok(Self::known(payload.into()))
     }
 
-    pub(crate) fn of(payload: Bytes<'a>) -> Result<Self, Refusal> {
-        let parts = calls::alternative(&payload).map_err(Refusal::of)?;
-        Ok(Self { payload, parts })
+    /// The alternative carrier of a payload that is known to be one.
+    pub(crate) fn known(payload: Bytes<'a>) -> Self {
+        Self(payload)
+    }
+
+    fn parts(&self) -> AlternativeParts<'_> {
+        AlternativeParts::new(&self.0)
     }
 
     /// The power state of the carrier.
     #[must_use]
     pub fn power(&self) -> PowerState {
-        PowerState::of(self.parts.power)
+        PowerState::of(self.parts().power())
     }
 
     /// The carrier data reference: the id of the record that describes the carrier, at most 255 bytes.
     #[must_use]
     pub fn reference(&self) -> &[u8] {
-        promised(calls::reference(&self.payload, 0).ok_or(()))
+        self.parts().reference()
     }
 
     /// The auxiliary data references, at most 255, each of at most 255 bytes.
     pub fn auxiliaries(&self) -> Auxiliaries<'_> {
-        let count = self.parts.references as usize;
-        Auxiliaries { payload: &self.payload, told: Told::of(&self.payload, count), next: 1, count }
+        Auxiliaries::of(&self.0)
     }
 
     /// Its payload.
     #[must_use]
     pub fn payload(&self) -> &[u8] {
-        &self.payload
+        &self.0
     }
 
     /// The same alternative carrier, which borrows nothing.
     #[cfg(feature = "alloc")]
     #[must_use]
     pub fn into_owned(self) -> AlternativeCarrier<'static> {
-        AlternativeCarrier { payload: self.payload.into_owned(), parts: self.parts }
+        AlternativeCarrier(self.0.into_owned())
     }
 
     #[cfg(feature = "alloc")]
@@ -138,65 +146,66 @@ impl fmt::Debug for AlternativeCarrier<'_> {
     }
 }
 
-/// When the library gives the offsets of the references.
-#[derive(Clone)]
-enum Told {
-    /// Each one when it is asked for, which looks at those before it.
-    #[cfg(not(feature = "alloc"))]
-    OneByOne,
-    /// All of them before.
-    #[cfg(feature = "alloc")]
-    Before(Vec<Part>),
-}
-
-impl Told {
-    #[cfg(not(feature = "alloc"))]
-    fn of(_payload: &[u8], _count: usize) -> Self {
-        Self::OneByOne
-    }
-
-    #[cfg(feature = "alloc")]
-    fn of(payload: &[u8], count: usize) -> Self {
-        let mut parts = vec![Part::default(); count];
-        promised(calls::references(payload, &mut parts));
-        Self::Before(parts)
-    }
-
-    fn reference<'a>(&self, payload: &'a [u8], index: usize) -> Option<&'a [u8]> {
-        match self {
-            #[cfg(not(feature = "alloc"))]
-            Self::OneByOne => calls::reference(payload, index),
-            #[cfg(feature = "alloc")]
-            Self::Before(parts) => {
-                let part = parts.get(index)?;
-                Some(calls::part(payload, part.at, part.length))
-            }
-        }
-    }
-}
-
 /// The auxiliary data references of an alternative carrier, one after another.
 #[derive(Clone)]
 #[must_use = "an iterator does nothing unless it is used"]
 pub struct Auxiliaries<'a> {
-    payload: &'a [u8],
-    told: Told,
+    /// Without memory each one is looked for from the first on.
+    #[cfg(not(feature = "alloc"))]
+    parts: AlternativeParts<'a>,
+    #[cfg(feature = "alloc")]
+    references: Vec<&'a [u8]>,
     next: usize,
-    count: usize,
+    end: usize,
+}
+
+impl<'a> Auxiliaries<'a> {
+    fn of(payload: &'a [u8]) -> Self {
+        let parts = AlternativeParts::new(payload);
+        let count = parts.auxiliary_count();
+        #[cfg(not(feature = "alloc"))]
+        let auxiliaries = Self { parts, next: 0, end: count };
+        #[cfg(feature = "alloc")]
+        let auxiliaries = Self { references: calls::references(payload, 1 + count), next: 0, end: count };
+        auxiliaries
+    }
+
+    #[cfg(not(feature = "alloc"))]
+    fn reference(&self, index: usize) -> Option<&'a [u8]> {
+        self.parts.auxiliary(index)
+    }
+
+    /// The first of all references is the carrier data reference.
+    #[cfg(feature = "alloc")]
+    fn reference(&self, index: usize) -> Option<&'a [u8]> {
+        self.references.get(1 + index).copied()
+    }
 }
 
 impl<'a> Iterator for Auxiliaries<'a> {
     type Item = &'a [u8];
 
     fn next(&mut self) -> Option<&'a [u8]> {
-        let reference = self.told.reference(self.payload, self.next)?;
+        if self.next == self.end {
+            return None;
+        }
         self.next += 1;
-        Some(reference)
+        self.reference(self.next - 1)
     }
 
     fn size_hint(&self) -> (usize, Option<usize>) {
-        let left = self.count - self.next;
+        let left = self.end - self.next;
         (left, Some(left))
+    }
+}
+
+impl DoubleEndedIterator for Auxiliaries<'_> {
+    fn next_back(&mut self) -> Option<Self::Item> {
+        if self.next == self.end {
+            return None;
+        }
+        self.end -= 1;
+        self.reference(self.end)
     }
 }
 
@@ -206,5 +215,22 @@ impl FusedIterator for Auxiliaries<'_> {}
 impl fmt::Debug for Auxiliaries<'_> {
     fn fmt(&self, to: &mut fmt::Formatter<'_>) -> fmt::Result {
         to.debug_list().entries(self.clone().map(Quoted)).finish()
+    }
+}
+
+#[cfg(test)]
+mod tests {
+    use super::AlternativeCarrier;
+
+    /// Without memory each is looked for, with it all are found at once.
+    #[test]
+    fn auxiliaries_are_read_from_both_ends() {
+        let carrier = AlternativeCarrier::parse(b"\x01\x01a\x04\x01b\x00\x02cd\x01e").unwrap();
+        let mut names = carrier.auxiliaries();
+        assert_eq!((names.next(), names.len(), names.next_back()), (Some(&b"b"[..]), 3, Some(&b"e"[..])));
+        assert_eq!(
+            (names.next(), names.next(), names.next(), names.next_back()),
+            (Some(&b""[..]), Some(&b"cd"[..]), None, None)
+        );
     }
 }

@@ -1,5 +1,4 @@
-//! Bytes that are borrowed, or owned where there is memory.
-use crate::calls;
+//! Bytes that are borrowed, or owned where there is memory. `Cow` itself needs memory, and the crate works without.
 use core::fmt;
 use core::hash::{Hash, Hasher};
 use core::ops::Deref;
@@ -22,12 +21,12 @@ pub enum Bytes<'a> {
 }
 
 impl<'a> Bytes<'a> {
-    /// A part of them that the library gave. It is borrowed if they are.
+    /// A part of them. It is borrowed if they are.
     pub(crate) fn part(&self, at: usize, length: usize) -> Bytes<'a> {
         match self {
-            Self::Borrowed(bytes) => Bytes::Borrowed(calls::part(bytes, at, length)),
+            Self::Borrowed(bytes) => Bytes::Borrowed(&bytes[at..][..length]),
             #[cfg(feature = "alloc")]
-            Self::Owned(bytes) => Bytes::Owned(calls::part(bytes, at, length).into()),
+            Self::Owned(bytes) => Bytes::Owned(bytes[at..][..length].into()),
         }
     }
 

@@ -1,7 +1,10 @@
 //! Handover carriers.
 use crate::bytes::{Bytes, Quoted};
 use crate::calls;
-use crate::{promised, EncodeError, NewRecord, Refusal, Tnf};
+use crate::payload::check_payload;
+use crate::proved::ndef_format::Kind;
+use crate::proved::ndef_types::CarrierParts;
+use crate::{EncodeError, NewRecord, Profile, Refusal, Tnf};
 use core::fmt;
 
 #[cfg(feature = "alloc")]
@@ -11,10 +14,7 @@ use alloc::vec::Vec;
 ///
 /// With the feature `alloc`, handover carriers are equal if their formats, types and data are.
 #[derive(Clone)]
-pub struct HandoverCarrier<'a> {
-    payload: Bytes<'a>,
-    parts: calls::CarrierParts,
-}
+pub struct HandoverCarrier<'a>(Bytes<'a>);
 
 impl<'a> HandoverCarrier<'a> {
     /// The handover carrier of the payload of a Handover Carrier record.
@@ -23,12 +23,17 @@ impl<'a> HandoverCarrier<'a> {
     ///
     /// The payload is not that of a handover carrier. The offset counts from its first byte.
     pub fn parse(payload: &'a [u8]) -> Result<Self, Refusal> {
-        Self::of(payload.into())
+        check_payload(Kind::Carrier, Profile::Strict, payload)?;
+        Ok(Self::known(payload.into()))
     }
 
-    pub(crate) fn of(payload: Bytes<'a>) -> Result<Self, Refusal> {
-        let parts = calls::carrier(&payload).map_err(Refusal::of)?;
-        Ok(Self { payload, parts })
+    /// The handover carrier of a payload that is known to be one.
+    pub(crate) fn known(payload: Bytes<'a>) -> Self {
+        Self(payload)
+    }
+
+    fn parts(&self) -> CarrierParts<'_> {
+        CarrierParts::new(&self.0)
     }
 
     /// A handover carrier: its carrier type format, 0 to 7, its carrier type, at most 255 bytes, and its data.
@@ -41,7 +46,7 @@ impl<'a> HandoverCarrier<'a> {
         let mut payload = Vec::with_capacity(2 + kind.len() + data.len());
         calls::write_carrier(format.into(), kind, data, &mut payload)
             .map_err(|unfilled| EncodeError::of(unfilled, EncodeError::Carrier))?;
-        Ok(promised(HandoverCarrier::of(Bytes::Owned(payload))))
+        Ok(HandoverCarrier::known(Bytes::Owned(payload)))
     }
 
     /// A handover carrier whose payload is written to the buffer.
@@ -52,38 +57,38 @@ impl<'a> HandoverCarrier<'a> {
     pub fn new_in(format: u8, kind: &[u8], data: &[u8], buffer: &'a mut [u8]) -> Result<Self, EncodeError> {
         let count = calls::write_carrier(format.into(), kind, data, buffer)
             .map_err(|unfilled| EncodeError::of(unfilled, EncodeError::Carrier))?;
-        Ok(promised(HandoverCarrier::parse(&buffer[..count])))
+        Ok(HandoverCarrier::known(Bytes::Borrowed(&buffer[..count])))
     }
 
     /// The carrier type format, 0 to 7: what kind of name the carrier type is.
     #[must_use]
     pub fn format(&self) -> u8 {
-        promised(self.parts.format.try_into())
+        self.parts().format()
     }
 
     /// The carrier type, at most 255 bytes.
     #[must_use]
     pub fn kind(&self) -> &[u8] {
-        calls::part(&self.payload, self.parts.type_at, self.parts.type_length)
+        self.parts().kind()
     }
 
     /// The carrier data.
     #[must_use]
     pub fn data(&self) -> &[u8] {
-        calls::part(&self.payload, self.parts.data_at, self.parts.data_length)
+        self.parts().carried()
     }
 
     /// Its payload.
     #[must_use]
     pub fn payload(&self) -> &[u8] {
-        &self.payload
+        &self.0
     }
 
     /// The same handover carrier, which borrows nothing.
     #[cfg(feature = "alloc")]
     #[must_use]
     pub fn into_owned(self) -> HandoverCarrier<'static> {
-        HandoverCarrier { payload: self.payload.into_owned(), parts: self.parts }
+        HandoverCarrier(self.0.into_owned())
     }
 
     #[cfg(feature = "alloc")]
@@ -97,7 +102,7 @@ compare_by_value! { HandoverCarrier }
 
 impl<'a> From<HandoverCarrier<'a>> for NewRecord<'a> {
     fn from(carrier: HandoverCarrier<'a>) -> Self {
-        NewRecord::new(Tnf::WellKnown, b"Hc", carrier.payload)
+        NewRecord::new(Tnf::WellKnown, b"Hc", carrier.0)
     }
 }
 

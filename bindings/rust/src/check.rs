@@ -1,6 +1,8 @@
 //! Checks of bytes, all at once or in parts.
-use crate::calls;
-use crate::{Limits, Refusal};
+use crate::proved::ndef_lang::Opaque;
+use crate::proved::ndef_message::{self, view, Fed};
+use crate::proved::ndef_nest::Typed;
+use crate::{Limits, Payloads, Refusal};
 use core::fmt;
 
 /// A message with which some bytes begin.
@@ -10,12 +12,6 @@ pub struct Checked {
     pub length: u64,
     /// The number of its records.
     pub records: u32,
-}
-
-impl Checked {
-    fn of(checked: calls::Checked) -> Self {
-        Self { length: checked.place, records: checked.records }
-    }
 }
 
 /// Checks that the bytes begin with a message. Other bytes may follow it.
@@ -35,11 +31,31 @@ impl Checked {
 /// ```
 #[inline]
 pub fn check(bytes: &[u8], limits: &Limits) -> Result<Checked, Refusal> {
-    let mut answer = calls::Checked::default();
-    match calls::check(bytes, &limits.raw(), &mut answer) {
-        calls::OK => Ok(Checked { length: answer.place, records: answer.records }),
-        _ => Err(Refusal::of(answer)),
+    let viewed = match limits.payloads() {
+        Payloads::Typed => view::<Typed>(bytes, limits.proved()),
+        Payloads::Opaque => view::<Opaque>(bytes, limits.proved()),
+    };
+    match viewed {
+        Ok(message) => Ok(Checked { length: message.taken(), records: message.records() }),
+        Err(refusal) => Err(Refusal::of(refusal)),
     }
+}
+
+/// A checker for each answer to which payloads are validated.
+#[derive(Clone)]
+enum Either {
+    Typed(ndef_message::Checker<Typed>),
+    Opaque(ndef_message::Checker<Opaque>),
+}
+
+/// Calls a method of the checker that is there.
+macro_rules! either {
+    ($checker:expr, $name:ident($($argument:expr),*)) => {
+        match $checker {
+            Either::Typed(checker) => checker.$name($($argument),*),
+            Either::Opaque(checker) => checker.$name($($argument),*),
+        }
+    };
 }
 
 /// A check of bytes that arrive in parts. Of the message it keeps the bytes of one type at most, while
@@ -54,13 +70,16 @@ pub fn check(bytes: &[u8], limits: &Limits) -> Result<Checked, Refusal> {
 /// # Ok::<(), simbegyor_ndef::Refusal>(())
 /// ```
 #[derive(Clone)]
-pub struct Checker(calls::Checker);
+pub struct Checker(Either);
 
 impl Checker {
     /// Begins a check, before the first byte.
     #[must_use]
     pub fn new(limits: &Limits) -> Self {
-        Self(calls::begin(&limits.raw()))
+        Self(match limits.payloads() {
+            Payloads::Typed => Either::Typed(ndef_message::Checker::new(limits.proved())),
+            Payloads::Opaque => Either::Opaque(ndef_message::Checker::new(limits.proved())),
+        })
     }
 
     /// Checks the next bytes; there may be none. `None`: the bytes so far begin a message, and more must follow.
@@ -71,10 +90,10 @@ impl Checker {
     ///
     /// The refusal is the one that [`check`] gives for all bytes so far. Its offset counts from the first of them.
     pub fn feed(&mut self, bytes: &[u8]) -> Result<Option<Checked>, Refusal> {
-        match calls::feed(&mut self.0, bytes) {
-            (calls::OK, checked) => Ok(Some(Checked::of(checked))),
-            (calls::MORE, _) => Ok(None),
-            (_, why) => Err(Refusal::of(why)),
+        match either!(&mut self.0, feed(bytes)) {
+            Fed::More => Ok(None),
+            Fed::Done { .. } => Ok(Some(self.checked())),
+            Fed::Refused(refusal) => Err(Refusal::of(refusal)),
         }
     }
 
@@ -83,11 +102,13 @@ impl Checker {
     /// # Errors
     ///
     /// As [`check`](check()). [`Reason::EndOfInput`](crate::Reason::EndOfInput) says that the message is not whole.
-    pub fn end(mut self) -> Result<Checked, Refusal> {
-        match calls::feed(&mut self.0, &[]) {
-            (calls::OK, checked) => Ok(Checked::of(checked)),
-            (_, why) => Err(Refusal::of(why)),
-        }
+    pub fn end(self) -> Result<Checked, Refusal> {
+        either!(&self.0, end()).map(|()| self.checked()).map_err(Refusal::of)
+    }
+
+    /// The message that was checked.
+    fn checked(&self) -> Checked {
+        Checked { length: either!(&self.0, place()), records: either!(&self.0, records()) }
     }
 }
 

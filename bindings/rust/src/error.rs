@@ -1,5 +1,7 @@
 //! Why a value is not read or written, other than that bytes are refused.
 use crate::calls::Unfilled;
+#[cfg(feature = "std")]
+use crate::Reason;
 use crate::Refusal;
 use core::fmt;
 
@@ -17,7 +19,6 @@ impl DecodeError {
     pub(crate) fn of(unfilled: Unfilled) -> Self {
         match unfilled {
             Unfilled::BufferTooSmall(needed) => Self::BufferTooSmall(needed),
-            Unfilled::Refused(why) => Self::Refused(Refusal::of(why)),
             Unfilled::BadArgument => crate::promised(Err(unfilled)),
         }
     }
@@ -83,7 +84,7 @@ impl EncodeError {
     pub(crate) fn of(unfilled: Unfilled, why: Self) -> Self {
         match unfilled {
             Unfilled::BufferTooSmall(needed) => Self::BufferTooSmall(needed),
-            Unfilled::Refused(_) | Unfilled::BadArgument => why,
+            Unfilled::BadArgument => why,
         }
     }
 }
@@ -92,8 +93,8 @@ impl fmt::Display for EncodeError {
     fn fmt(&self, to: &mut fmt::Formatter<'_>) -> fmt::Result {
         match self {
             Self::NoRecord => to.write_str("a message has at least one record"),
-            Self::Record(record) => write!(to, "record {record} cannot have this type, id or payload"),
-            Self::Refused { record, refusal } => write!(to, "record {record} is {refusal}: {}", refusal.sentence()),
+            Self::Record(record) => write!(to, "record {record}: BadArgument: type, id or payload"),
+            Self::Refused { record, refusal } => write!(to, "record {record}: {refusal}"),
             Self::Text => to.write_str("a text cannot have this language or length"),
             Self::Uri => to.write_str("a URI cannot be so long"),
             Self::Carrier => to.write_str("a handover carrier cannot have this format, type or length"),
@@ -108,14 +109,6 @@ impl fmt::Display for EncodeError {
 }
 
 impl core::error::Error for EncodeError {}
-
-/// An error of the kind [`InvalidInput`](std::io::ErrorKind::InvalidInput).
-#[cfg(feature = "std")]
-impl From<EncodeError> for std::io::Error {
-    fn from(error: EncodeError) -> Self {
-        Self::new(std::io::ErrorKind::InvalidInput, error)
-    }
-}
 
 /// A number that stands for no value of a type.
 #[derive(Clone, Copy, Debug, PartialEq, Eq, Hash)]
@@ -134,3 +127,32 @@ impl fmt::Display for NumberError {
 }
 
 impl core::error::Error for NumberError {}
+
+/// An error of the kind [`InvalidInput`](std::io::ErrorKind::InvalidInput).
+#[cfg(feature = "std")]
+impl From<EncodeError> for std::io::Error {
+    fn from(error: EncodeError) -> Self {
+        Self::new(std::io::ErrorKind::InvalidInput, error)
+    }
+}
+
+/// Makes of each other error an [`io::Error`](std::io::Error) of a kind.
+#[cfg(feature = "std")]
+macro_rules! io_errors {
+    ($($error:ident $kind:ident;)*) => { $(
+        #[doc = concat!("An error of the kind [`", stringify!($kind), "`](std::io::ErrorKind::", stringify!($kind), ").")]
+        impl From<$error> for std::io::Error {
+            fn from(error: $error) -> Self {
+                Self::new(std::io::ErrorKind::$kind, error)
+            }
+        }
+    )* };
+}
+
+#[cfg(feature = "std")]
+io_errors! {
+    DecodeError InvalidData;
+    NumberError InvalidInput;
+    Reason InvalidData;
+    Refusal InvalidData;
+}

@@ -1,11 +1,12 @@
 //! In which field each byte of a message stands.
-use crate::calls::{self, Field as FieldPart};
-use crate::{DecodeError, Limits, Payloads, Refusal};
+use crate::kept_field::Field as FieldPart;
+use crate::proved::ndef_fields::{self, fields_before};
+use crate::proved::ndef_message::view;
+use crate::proved::ndef_nest::Typed;
+use crate::{DecodeError, Limits, Refusal};
 use core::fmt;
 use core::iter::FusedIterator;
 
-#[cfg(feature = "alloc")]
-use crate::promised;
 #[cfg(feature = "alloc")]
 use alloc::vec::Vec;
 
@@ -78,6 +79,56 @@ names! {
     31 CarrierData "carrier data",
 }
 
+/// The names of the proved text, in the order of their numbers.
+#[cfg(any(feature = "alloc", test))]
+const PROVED: [ndef_fields::FieldName; 31] = {
+    use ndef_fields::FieldName::*;
+    [
+        Header,
+        KindLength,
+        PayloadLength,
+        IdLength,
+        Kind,
+        Id,
+        Payload,
+        Status,
+        Language,
+        Mark,
+        Text,
+        UriCode,
+        UriRest,
+        Action,
+        Size,
+        MediaType,
+        Version,
+        Collision,
+        Power,
+        ReferenceLength,
+        Reference,
+        AuxiliaryCount,
+        AuxiliaryLength,
+        Auxiliary,
+        AfterAuxiliary,
+        ErrorReason,
+        ErrorData,
+        CarrierFormat,
+        CarrierKindLength,
+        CarrierKind,
+        CarrierData,
+    ]
+};
+
+impl FieldName {
+    pub(crate) fn of(name: ndef_fields::FieldName) -> Self {
+        Self::from_number(name as u32).unwrap_or(Self::Unlisted)
+    }
+
+    #[cfg(feature = "alloc")]
+    pub(crate) fn proved(self) -> Option<ndef_fields::FieldName> {
+        PROVED.get((self as usize).checked_sub(1)?).copied()
+    }
+}
+
 impl fmt::Display for FieldName {
     fn fmt(&self, to: &mut fmt::Formatter<'_>) -> fmt::Result {
         to.pad(self.text())
@@ -98,12 +149,20 @@ pub struct Field<'a> {
     pub name: FieldName,
 }
 
-/// Where the fields that the library gave are kept.
+/// Where the fields are kept.
 #[derive(Clone)]
-enum Told<'a> {
+enum Kept<'a> {
     Borrowed(&'a [FieldPart]),
     #[cfg(feature = "alloc")]
     Owned(Vec<FieldPart>),
+}
+
+/// The bytes of the message with which some begin, or those before the refused byte, and why that is refused.
+fn front<'a>(bytes: &'a [u8], limits: &Limits) -> (&'a [u8], Option<Refusal>) {
+    match view::<Typed>(bytes, limits.proved()) {
+        Ok(message) => (&bytes[..message.taken() as usize], None),
+        Err(refusal) => (&bytes[..refusal.at as usize], Some(Refusal::of(refusal))),
+    }
 }
 
 /// The fields of the message with which some bytes begin, in order; of bytes that are refused, those before the refused
@@ -121,22 +180,20 @@ enum Told<'a> {
 #[must_use = "an iterator does nothing unless it is used"]
 pub struct Fields<'a> {
     bytes: &'a [u8],
-    told: Told<'a>,
+    kept: Kept<'a>,
     refusal: Option<Refusal>,
     next: usize,
+    end: usize,
 }
 
 impl<'a> Fields<'a> {
     /// The fields of the message with which these bytes begin.
     #[cfg(feature = "alloc")]
     pub fn of(bytes: &'a [u8], limits: &Limits) -> Self {
-        let (limits, mut why) = (limits.with_payloads(Payloads::Typed).raw(), calls::Checked::default());
-        let mut told = Vec::new();
-        if let Err(count) = calls::fields(bytes, &limits, &mut told, &mut why) {
-            told.resize(count, FieldPart::default());
-            promised(calls::fields(bytes, &limits, &mut told, &mut why));
-        }
-        Self { bytes, told: Told::Owned(told), refusal: refusal_of(why), next: 0 }
+        let (front, refusal) = front(bytes, limits);
+        let kept: Vec<_> = fields_before(front).map(FieldPart::of).collect();
+        let end = kept.len();
+        Self { bytes, kept: Kept::Owned(kept), refusal, next: 0, end }
     }
 
     /// The same, in a buffer that needs an element for each field.
@@ -145,9 +202,18 @@ impl<'a> Fields<'a> {
     ///
     /// [`DecodeError::BufferTooSmall`] alone.
     pub fn of_in(bytes: &'a [u8], limits: &Limits, buffer: &'a mut [FieldPart]) -> Result<Self, DecodeError> {
-        let (limits, mut why) = (limits.with_payloads(Payloads::Typed).raw(), calls::Checked::default());
-        let count = calls::fields(bytes, &limits, buffer, &mut why).map_err(DecodeError::BufferTooSmall)?;
-        Ok(Self { bytes, told: Told::Borrowed(&buffer[..count]), refusal: refusal_of(why), next: 0 })
+        let (front, refusal) = front(bytes, limits);
+        let mut count = 0;
+        for field in fields_before(front) {
+            if let Some(kept) = buffer.get_mut(count) {
+                *kept = FieldPart::of(field);
+            }
+            count += 1;
+        }
+        if count > buffer.len() {
+            return Err(DecodeError::BufferTooSmall(count));
+        }
+        Ok(Self { bytes, kept: Kept::Borrowed(&buffer[..count]), refusal, next: 0, end: count })
     }
 
     /// Where and why the bytes are refused; none if they begin with a message.
@@ -159,46 +225,53 @@ impl<'a> Fields<'a> {
     /// The field to which the byte at an offset belongs; none after the message, or from a refused byte on.
     #[must_use]
     pub fn at(&self, place: usize) -> Option<Field<'a>> {
-        let index = self.all().partition_point(|told| told.at <= place).checked_sub(1)?;
+        let index = self.all().partition_point(|kept| kept.at <= place).checked_sub(1)?;
         self.field(index).filter(|field| place - field.at < field.bytes.len())
     }
 
     fn all(&self) -> &[FieldPart] {
-        match &self.told {
-            Told::Borrowed(told) => told,
+        match &self.kept {
+            Kept::Borrowed(kept) => kept,
             #[cfg(feature = "alloc")]
-            Told::Owned(told) => told,
+            Kept::Owned(kept) => kept,
         }
     }
 
     fn field(&self, index: usize) -> Option<Field<'a>> {
-        let told = self.all().get(index)?;
+        let kept = self.all().get(index)?;
         Some(Field {
-            at: told.at,
-            bytes: calls::part(self.bytes, told.at, told.length),
-            depth: told.depth,
-            name: FieldName::from_number(told.name).unwrap_or(FieldName::Unlisted),
+            at: kept.at,
+            bytes: &self.bytes[kept.at..][..kept.length],
+            depth: kept.depth,
+            name: FieldName::from_number(kept.name).unwrap_or(FieldName::Unlisted),
         })
     }
-}
-
-/// The refusal, if the library gave one.
-fn refusal_of(why: calls::Checked) -> Option<Refusal> {
-    (why.reason != 0).then(|| Refusal::of(why))
 }
 
 impl<'a> Iterator for Fields<'a> {
     type Item = Field<'a>;
 
     fn next(&mut self) -> Option<Field<'a>> {
-        let field = self.field(self.next)?;
+        if self.next == self.end {
+            return None;
+        }
         self.next += 1;
-        Some(field)
+        self.field(self.next - 1)
     }
 
     fn size_hint(&self) -> (usize, Option<usize>) {
-        let left = self.all().len() - self.next;
+        let left = self.end - self.next;
         (left, Some(left))
+    }
+}
+
+impl DoubleEndedIterator for Fields<'_> {
+    fn next_back(&mut self) -> Option<Self::Item> {
+        if self.next == self.end {
+            return None;
+        }
+        self.end -= 1;
+        self.field(self.end)
     }
 }
 
@@ -214,16 +287,13 @@ impl fmt::Debug for Fields<'_> {
 #[cfg(test)]
 mod tests {
     use super::*;
+    use crate::Payloads;
 
     #[test]
     fn names_are_the_librarys() {
-        for number in 0..200 {
-            let mut buffer = [0; 31];
-            let told = calls::field_name(number, &mut buffer[..]).map(|count| &buffer[..count]);
-            match FieldName::from_number(number) {
-                Some(name) => assert_eq!((told, name as u32), (Ok(name.text().as_bytes()), number)),
-                None => assert_eq!(told, Err(calls::Unfilled::BadArgument)),
-            }
+        assert_eq!(FieldName::ALL.len(), PROVED.len());
+        for (name, proved) in FieldName::ALL.iter().zip(PROVED) {
+            assert_eq!((proved.text(), FieldName::of(proved)), (name.text().as_bytes(), *name));
         }
     }
 
@@ -231,7 +301,7 @@ mod tests {
     #[test]
     fn fields_of_a_poster() {
         let poster = b"\xD1\x02\x06Sp\xD1\x01\x02U\x00a";
-        let told: [(usize, u32, &str); 10] = [
+        let expected: [(usize, u32, &str); 10] = [
             (0, 0, "header"),
             (1, 0, "TYPE_LENGTH"),
             (2, 0, "PAYLOAD_LENGTH"),
@@ -245,7 +315,7 @@ mod tests {
         ];
         let mut buffer = [FieldPart::default(); 10];
         let fields = Fields::of_in(poster, &Limits::new().with_payloads(Payloads::Opaque), &mut buffer).unwrap();
-        assert!(fields.clone().map(|field| (field.at, field.depth, field.name.text())).eq(told));
+        assert!(fields.clone().map(|field| (field.at, field.depth, field.name.text())).eq(expected));
         assert!(fields.clone().flat_map(|field| field.bytes).eq(poster));
         assert_eq!((fields.len(), fields.clone().skip(3).len(), fields.refusal()), (10, 7, None));
         assert_eq!(fields.at(4), fields.at(3));
@@ -257,7 +327,7 @@ mod tests {
         let refused = b"\xD1\x02\x06Sp\xD1\x01\x02U\xFFa";
         let mut buffer = [FieldPart::default(); 8];
         let fields = Fields::of_in(refused, &Limits::new(), &mut buffer).unwrap();
-        assert!(fields.clone().map(|field| field.name.text()).eq(told[..8].iter().map(|field| field.2)));
+        assert!(fields.clone().map(|field| field.name.text()).eq(expected[..8].iter().map(|field| field.2)));
         assert_eq!((fields.at(8).unwrap().bytes, fields.at(9)), (&b"U"[..], None));
         assert_eq!(fields.refusal(), Some(Refusal { at: 9, reason: crate::Reason::UriCode }));
 

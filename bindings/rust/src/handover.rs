@@ -1,6 +1,9 @@
 //! Handover requests and handover selects.
 use crate::bytes::Bytes;
-use crate::calls;
+use crate::payload::check_payload;
+use crate::proved::ndef_format::{Kind, Table};
+use crate::proved::ndef_piece::inner_of;
+use crate::record::Within;
 use crate::{promised, AlternativeCarrier, HandoverError, NewRecord, Profile, Records, Refusal, Tnf};
 use core::fmt;
 use core::iter::FusedIterator;
@@ -12,14 +15,13 @@ use alloc::vec::Vec;
 
 /// What requests and selects share.
 macro_rules! handovers {
-    ($($(#[$doc:meta])* $name:ident $kind:literal $parts:ty = $call:ident;)*) => { $(
+    ($($(#[$doc:meta])* $name:ident $kind:ident;)*) => { $(
         $(#[$doc])*
         ///
         /// With the feature `alloc`, they are equal if their versions and records are.
         #[derive(Clone)]
         pub struct $name<'a> {
             payload: Bytes<'a>,
-            parts: $parts,
             profile: Profile,
         }
 
@@ -30,32 +32,33 @@ macro_rules! handovers {
             ///
             /// The payload is not one of its type. The offset counts from its first byte.
             pub fn parse(payload: &'a [u8], profile: Profile) -> Result<Self, Refusal> {
-                Self::of(payload.into(), profile)
+                check_payload(Kind::$kind, profile, payload)?;
+                Ok(Self::known(payload.into(), profile))
             }
 
-            pub(crate) fn of(payload: Bytes<'a>, profile: Profile) -> Result<Self, Refusal> {
-                let parts = calls::$call(&payload, profile.flags()).map_err(Refusal::of)?;
-                Ok(Self { payload, parts, profile })
+            /// The value of a payload that is known to be one.
+            pub(crate) fn known(payload: Bytes<'a>, profile: Profile) -> Self {
+                Self { payload, profile }
             }
 
             /// The version of Connection Handover, major and minor. The major one is 1, and the minor one is 0 to 15.
             pub fn version(&self) -> (u8, u8) {
-                (promised(self.parts.major.try_into()), promised(self.parts.minor.try_into()))
+                (self.payload[0] / 16, self.payload[0] % 16)
             }
 
             /// How many alternative carriers it has.
             pub fn alternative_count(&self) -> usize {
-                self.parts.carriers
+                self.alternatives().len()
             }
 
             /// Its alternative carriers. [`Message::links`](crate::Message::links) gives the record of each.
             pub fn alternatives(&self) -> Alternatives<'_> {
-                Alternatives { records: self.records(), left: self.alternative_count() }
+                Alternatives(self.records())
             }
 
             /// All of its records.
             pub fn records(&self) -> Records<'_> {
-                Records::within(&self.payload[1..], self.profile)
+                Records::within(inner_of(Kind::$kind, &self.payload), Within::Payload(Table::$kind), self.profile)
             }
 
             /// Its payload.
@@ -80,7 +83,7 @@ macro_rules! handovers {
 
         impl<'a> From<$name<'a>> for NewRecord<'a> {
             fn from(handover: $name<'a>) -> Self {
-                NewRecord::new(Tnf::WellKnown, $kind, handover.payload)
+                NewRecord::new(Tnf::WellKnown, Kind::$kind.name(), handover.payload)
             }
         }
 
@@ -97,16 +100,18 @@ macro_rules! handovers {
 
 handovers! {
     /// A handover request (`Hr`, Connection Handover 1.2): the carriers that a device offers.
-    HandoverRequest b"Hr" calls::RequestParts = request;
+    HandoverRequest Request;
     /// A handover select (`Hs`, Connection Handover 1.2): the carriers that a device chose of a request.
-    HandoverSelect b"Hs" calls::SelectParts = select;
+    HandoverSelect Select;
 }
 
 impl HandoverRequest<'_> {
     /// The random number of its Collision Resolution record.
     #[must_use]
     pub fn collision(&self) -> u16 {
-        promised(self.parts.collision.try_into())
+        let record = self.records().next_of(Kind::Collision);
+        let number = record.and_then(|record| record.payload()?.try_into().ok());
+        u16::from_be_bytes(promised(number.ok_or(())))
     }
 
     /// Begins a request with the version 1.`minor`, 0 to 15, and the random number of its Collision Resolution record.
@@ -132,8 +137,7 @@ impl HandoverSelect<'_> {
     /// Its error; of several errors the first.
     #[must_use]
     pub fn error(&self) -> Option<HandoverError<'_>> {
-        let record = self.records().find(|record| record.is_well_known(b"err"))?;
-        Some(promised(HandoverError::parse(record.payload()?)))
+        Some(HandoverError::known(self.records().next_of(Kind::Error)?.payload()?))
     }
 
     /// Begins a select with the version 1.`minor`, 0 to 15.
@@ -146,22 +150,19 @@ impl HandoverSelect<'_> {
 /// The alternative carriers of a handover, one after another.
 #[derive(Clone)]
 #[must_use = "an iterator does nothing unless it is used"]
-pub struct Alternatives<'a> {
-    records: Records<'a>,
-    left: usize,
-}
+pub struct Alternatives<'a>(Records<'a>);
 
 impl<'a> Iterator for Alternatives<'a> {
     type Item = AlternativeCarrier<'a>;
 
     fn next(&mut self) -> Option<AlternativeCarrier<'a>> {
-        let record = self.records.find(|record| record.is_well_known(b"ac"))?;
-        self.left -= 1;
-        Some(promised(AlternativeCarrier::parse(record.payload()?)))
+        Some(AlternativeCarrier::known(self.0.next_of(Kind::Alternative)?.payload()?.into()))
     }
 
+    /// They are counted by a walk over the records.
     fn size_hint(&self) -> (usize, Option<usize>) {
-        (self.left, Some(self.left))
+        let left = self.clone().fold(0, |count, _| count + 1);
+        (left, Some(left))
     }
 }
 

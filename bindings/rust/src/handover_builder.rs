@@ -1,9 +1,7 @@
 //! Handover requests and selects built of their records.
 use crate::bytes::Bytes;
-use crate::calls::{self, Part, Unfilled};
-use crate::{
-    promised, EncodeError, HandoverRequest, HandoverSelect, MessageBuilder, NewRecord, PowerState, Profile, Tnf,
-};
+use crate::calls::{self, NdefPart, Unfilled};
+use crate::{EncodeError, HandoverRequest, HandoverSelect, MessageBuilder, NewRecord, PowerState, Profile, Tnf};
 use alloc::vec::Vec;
 
 /// The records of a handover, or the first error of one.
@@ -27,11 +25,11 @@ fn alternative<'a>(records: Records<'a>, power: PowerState, references: &[&[u8]]
     let bytes = references.concat();
     let mut at = 0;
     let part = |reference: &&[u8]| {
-        let part = Part { at, length: reference.len() };
+        let part = NdefPart { at, length: reference.len() };
         at += part.length;
         part
     };
-    let parts: Vec<Part> = references.iter().map(part).collect();
+    let parts: Vec<NdefPart> = references.iter().map(part).collect();
     let write = |payload: &mut Vec<u8>| calls::write_alternative(power as u32, &bytes, &parts, payload);
     written(records, b"ac", EncodeError::Alternative, write)
 }
@@ -80,7 +78,7 @@ macro_rules! builders {
             /// [`EncodeError::Record`]. [`EncodeError::Handover`]: together they make no such handover.
             pub fn build(self) -> Result<$handover<'static>, EncodeError> {
                 let payload = payload($number, self.minor, self.records)?;
-                Ok(promised($handover::of(payload, Profile::Strict)))
+                Ok($handover::known(payload, Profile::Strict))
             }
         }
     )* };

@@ -1,6 +1,8 @@
 //! Errors of handover selects.
-use crate::calls;
-use crate::{promised, Refusal};
+use crate::payload::check_payload;
+use crate::proved::ndef_format::Kind;
+use crate::proved::ndef_types::ErrorParts;
+use crate::{Profile, Refusal};
 
 /// The error of a handover select (`err`, Connection Handover 1.2).
 #[derive(Clone, Copy, Debug, PartialEq, Eq, Hash)]
@@ -23,11 +25,19 @@ impl<'a> HandoverError<'a> {
     ///
     /// The payload is not that of an error. The offset counts from its first byte.
     pub fn parse(payload: &'a [u8]) -> Result<Self, Refusal> {
-        let parts = calls::error(payload).map_err(Refusal::of)?;
-        Ok(Self {
-            reason: promised(parts.reason.try_into()),
-            data: calls::part(payload, parts.data_at, parts.data_length),
-            number: (parts.has_number != 0).then_some(parts.number),
-        })
+        check_payload(Kind::Error, Profile::Strict, payload)?;
+        Ok(Self::known(payload))
+    }
+
+    /// The error of a payload that is known to be one.
+    pub(crate) fn known(payload: &'a [u8]) -> Self {
+        let parts = ErrorParts::new(payload);
+        let (reason, data) = (parts.reason(), parts.detail());
+        let number = match (reason, data) {
+            (1 | 3, [number]) => Some(u32::from(*number)),
+            (2, [a, b, c, d]) => Some(u32::from_be_bytes([*a, *b, *c, *d])),
+            _ => None,
+        };
+        Self { reason, data, number }
     }
 }

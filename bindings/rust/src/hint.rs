@@ -1,5 +1,9 @@
 //! What may help where bytes are refused, to a program.
-use crate::{calls, Limits, Payloads};
+use crate::proved::ndef_diagnostics::{hint_at, DumpText, Hint, Wrapping};
+use crate::proved::ndef_message::view;
+use crate::proved::ndef_nest::Typed;
+use crate::proved::ndef_value::Refusal;
+use crate::Limits;
 use core::fmt;
 
 macro_rules! kinds {
@@ -43,6 +47,35 @@ kinds! {
     12 Base64 "The bytes may be base64.",
     13 Code "The identifier code of a URI may be missing.",
     14 Standard "A reader of the standard profile accepts the bytes.",
+}
+
+impl HintKind {
+    fn of(hint: Hint) -> Self {
+        match hint {
+            Hint::InTag(found) => match found.wrapping {
+                Wrapping::Block => Self::Tlv,
+                Wrapping::Attributes => Self::Attributes,
+                Wrapping::File => Self::File,
+            },
+            Hint::MessageAt(_) => Self::Message,
+            Hint::AfterBlocks => Self::Terminator,
+            Hint::Text(text) => Self::of_text(text),
+            Hint::CodeLeftOut => Self::Code,
+            Hint::StandardProfile => Self::Standard,
+        }
+    }
+
+    fn of_text(text: DumpText) -> Self {
+        match text {
+            DumpText::Digits => Self::Digits,
+            DumpText::Xxd => Self::Xxd,
+            DumpText::Hexdump => Self::Hexdump,
+            DumpText::Words => Self::Words,
+            DumpText::Flipper => Self::Flipper,
+            DumpText::Proxmark => Self::Proxmark,
+            DumpText::Base64 => Self::Base64,
+        }
+    }
 }
 
 /// What may help where bytes are refused. `Display` writes a sentence of English, which names what a program in Rust calls.
@@ -102,6 +135,16 @@ impl fmt::Display for FoundHint {
     }
 }
 
+/// Where and why the bytes are refused, their payloads being validated.
+pub(crate) fn refusal_of(bytes: &[u8], limits: &Limits) -> Option<Refusal> {
+    view::<Typed>(bytes, limits.proved()).err()
+}
+
+/// The hint that applies where the bytes are refused.
+pub(crate) fn hint_of(bytes: &[u8], limits: &Limits) -> Option<Hint> {
+    hint_at(bytes, limits.proved(), refusal_of(bytes, limits)?)
+}
+
 /// What may help where the bytes are refused, by its kind and the place of a message. `None`: nothing is known to help, or
 /// they begin with a message. The rest is as for `hint`, which writes a sentence that names commands.
 ///
@@ -116,7 +159,7 @@ impl fmt::Display for FoundHint {
 /// ```
 #[must_use]
 pub fn find_hint(bytes: &[u8], limits: &Limits) -> Option<FoundHint> {
-    let found = calls::find_hint(bytes, &limits.with_payloads(Payloads::Typed).raw())?;
-    let kind = HintKind::from_number(found.hint)?;
-    Some(FoundHint { kind, place: found.at, length: found.length, given: bytes.len() })
+    let hint = hint_of(bytes, limits)?;
+    let (place, length) = (hint.place() as usize, hint.length() as usize);
+    Some(FoundHint { kind: HintKind::of(hint), place, length, given: bytes.len() })
 }

@@ -42,6 +42,7 @@ mod handover;
 mod handover_builder;
 mod handover_error;
 mod hint;
+mod kept_field;
 mod limits;
 mod link;
 mod message;
@@ -49,6 +50,8 @@ mod message;
 mod message_builder;
 mod message_encoder;
 mod new_record;
+#[cfg(feature = "alloc")]
+mod owned_message;
 mod payload;
 mod poster;
 #[cfg(feature = "alloc")]
@@ -70,15 +73,12 @@ mod why;
 
 pub use alternative::{AlternativeCarrier, Auxiliaries, PowerState};
 pub use bytes::Bytes;
-/// [`Fields::of_in`] fills an array of them.
-#[doc(inline)]
-pub use calls::Field as FieldPart;
-/// [`Record::chunks_in`] fills an array of them.
-#[doc(inline)]
-pub use calls::Part;
 pub use carrier::HandoverCarrier;
 pub use check::{check, Checked, Checker};
 pub use chunks::Chunks;
+/// [`Record::chunks_in`] fills an array of them.
+#[doc(inline)]
+pub use chunks::Part;
 pub use error::{DecodeError, EncodeError, NumberError};
 pub use field::{Field, FieldName, Fields};
 pub use handover::{Alternatives, HandoverRequest, HandoverSelect};
@@ -86,6 +86,9 @@ pub use handover::{Alternatives, HandoverRequest, HandoverSelect};
 pub use handover_builder::{HandoverRequestBuilder, HandoverSelectBuilder};
 pub use handover_error::HandoverError;
 pub use hint::{find_hint, FoundHint, HintKind};
+/// [`Fields::of_in`] fills an array of them.
+#[doc(inline)]
+pub use kept_field::Field as FieldPart;
 pub use limits::{Limits, Payloads, Profile};
 pub use link::{Link, Links};
 pub use message::{Message, Records};
@@ -93,6 +96,8 @@ pub use message::{Message, Records};
 pub use message_builder::MessageBuilder;
 pub use message_encoder::MessageEncoder;
 pub use new_record::{encode, Form, NewRecord, Position};
+#[cfg(feature = "alloc")]
+pub use owned_message::OwnedMessage;
 pub use payload::{Payload, PayloadKind};
 pub use poster::{Action, Icon, Icons, SmartPoster, Titles};
 #[cfg(feature = "alloc")]

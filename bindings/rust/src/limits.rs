@@ -1,5 +1,6 @@
 //! How large a message may be, and how it is checked.
-use crate::calls;
+use crate::promised;
+use crate::proved::ndef_value;
 use core::num::{NonZeroU16, NonZeroU32};
 
 /// What becomes of the type name format 7 and of URI codes above 0x23, which are reserved. The repository's
@@ -15,10 +16,11 @@ pub enum Profile {
 }
 
 impl Profile {
-    pub(crate) fn flags(self) -> u32 {
+    #[inline]
+    pub(crate) fn proved(self) -> ndef_value::Profile {
         match self {
-            Self::Strict => 0,
-            Self::Standard => calls::STANDARD,
+            Self::Strict => ndef_value::Profile::Strict,
+            Self::Standard => ndef_value::Profile::Standard,
         }
     }
 }
@@ -127,17 +129,9 @@ impl Limits {
     }
 
     #[inline]
-    pub(crate) fn raw(&self) -> calls::Limits {
-        let opaque = match self.payloads {
-            Payloads::Typed => 0,
-            Payloads::Opaque => calls::OPAQUE,
-        };
-        calls::Limits {
-            payload: self.payload.get(),
-            records: self.records.get().into(),
-            chunks: self.chunks.get().into(),
-            flags: self.profile.flags() | opaque,
-        }
+    pub(crate) fn proved(&self) -> ndef_value::Limits {
+        let limits = ndef_value::Limits::new(self.payload.get(), self.records.get().into(), self.chunks.get().into());
+        promised(limits).with(self.profile.proved())
     }
 }
 
@@ -151,6 +145,6 @@ impl Default for Limits {
 mod tests {
     #[test]
     fn the_usual_limits_are_the_librarys() {
-        assert_eq!(super::Limits::new().raw(), crate::calls::default_limits());
+        assert_eq!(super::Limits::new().proved(), crate::proved::ndef_value::Limits::usual());
     }
 }

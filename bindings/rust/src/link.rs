@@ -1,12 +1,15 @@
 //! The links of messages.
 use crate::bytes::Bytes;
-use crate::calls;
-use crate::{promised, AlternativeCarrier, Message, Payload, Record, Refusal};
+use crate::payload::check_payload;
+use crate::proved::ndef_format::{Kind, Table};
+use crate::proved::ndef_piece::inner_of;
+use crate::record::Within;
+use crate::{AlternativeCarrier, Message, Record, Refusal};
 use core::fmt;
 use core::iter::FusedIterator;
 
 #[cfg(feature = "alloc")]
-use alloc::collections::BTreeMap;
+use alloc::vec::Vec;
 
 /// A link of a message: an alternative carrier of its handover, and the record to which that refers.
 #[derive(Clone, Debug)]
@@ -25,24 +28,26 @@ pub struct Link<'a> {
 #[must_use = "an iterator does nothing unless it is used"]
 pub struct Links<'a> {
     message: Message<'a>,
-    /// The payload of the handover: a version octet, alone or with a message after it.
+    /// The kind of the handover, and its whole payload.
+    kind: Kind,
     handover: Bytes<'a>,
-    /// Where the next record of that message begins, if there is one.
+    /// Where the next record of the message in that payload begins, if there is one.
     next: Option<usize>,
-    /// Where the first record with each id begins. Without it each id is looked for in the message.
+    /// Where the first record with each id begins, by the ids. Without it each id is looked for in the message.
     #[cfg(feature = "alloc")]
-    ids: Option<BTreeMap<&'a [u8], usize>>,
+    ids: Option<Vec<(&'a [u8], usize)>>,
 }
 
 impl<'a> Links<'a> {
     pub(crate) fn none(message: Message<'a>) -> Self {
-        Self::new(message, Bytes::default())
+        Self::new(message, Kind::Select, Bytes::default())
     }
 
-    fn new(message: Message<'a>, handover: Bytes<'a>) -> Self {
-        let next = (handover.len() > 1).then_some(0);
+    fn new(message: Message<'a>, kind: Kind, handover: Bytes<'a>) -> Self {
+        let next = (!inner_of(kind, &handover).is_empty()).then_some(0);
         Self {
             message,
+            kind,
             handover,
             next,
             #[cfg(feature = "alloc")]
@@ -52,30 +57,34 @@ impl<'a> Links<'a> {
 
     /// The links of a message by its handover, whose whole payload is given.
     pub(crate) fn of(message: Message<'a>, handover: Record<'a>, payload: Bytes<'a>) -> Result<Self, Refusal> {
-        Payload::parse(handover.tnf(), handover.kind(), &payload, message.profile())?;
-        Ok(Self::new(message, payload))
+        let kind = handover.type_kind();
+        if handover.checked_kind() != kind {
+            check_payload(kind, message.profile(), &payload)?;
+        }
+        Ok(Self::new(message, kind, payload))
     }
 
     /// The same, with the offset of each id, so that the message is walked once for all of them.
     #[cfg(feature = "alloc")]
     pub(crate) fn with_ids(mut self) -> Self {
-        let mut ids = BTreeMap::new();
-        for record in self.message.records().filter(|record| !record.id().is_empty()) {
-            ids.entry(record.id()).or_insert(record.place());
-        }
+        let records = self.message.records().filter(|record| !record.id().is_empty());
+        let mut ids: Vec<_> = records.map(|record| (record.id(), record.place())).collect();
+        ids.sort_unstable();
+        ids.dedup_by_key(|(id, _)| *id);
         self.ids = Some(ids);
         self
     }
 
     /// Where the payload of the next alternative carrier lies in the handover, and its length.
     fn next_carrier(&mut self) -> Option<(usize, usize)> {
-        let records = self.handover.get(1..)?;
+        let (message, table) = (inner_of(self.kind, &self.handover), Table::of(self.kind));
+        let before = self.handover.len() - message.len();
         loop {
-            let mut told = calls::Record::default();
-            promised(calls::record_at(records, self.next?, &mut told));
-            self.next = (told.last == 0).then_some(told.end);
-            if Record::of(records, told, self.message.profile()).is_well_known(b"ac") {
-                return Some((1 + told.payload_at, told.part_length));
+            let record = Record::at(message, self.next?, Within::Payload(table), self.message.profile());
+            self.next = (!record.is_last()).then_some(record.end());
+            if record.checked_kind() == Kind::Alternative {
+                let length = record.payload_len();
+                return Some((before + record.end() - length, length));
             }
         }
     }
@@ -84,7 +93,8 @@ impl<'a> Links<'a> {
     fn record_with_id(&self, id: &[u8]) -> Option<Record<'a>> {
         #[cfg(feature = "alloc")]
         if let Some(ids) = &self.ids {
-            return ids.get(id).map(|at| self.message.record_at(*at));
+            let index = ids.binary_search_by_key(&id, |(id, _)| *id).ok()?;
+            return Some(self.message.record_at(ids[index].1));
         }
         self.message.record_with_id(id)
     }
@@ -95,7 +105,7 @@ impl<'a> Iterator for Links<'a> {
 
     fn next(&mut self) -> Option<Link<'a>> {
         let (at, length) = self.next_carrier()?;
-        let alternative = promised(AlternativeCarrier::of(self.handover.part(at, length)));
+        let alternative = AlternativeCarrier::known(self.handover.part(at, length));
         let record = self.record_with_id(alternative.reference());
         Some(Link { alternative, record })
     }

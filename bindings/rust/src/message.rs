@@ -1,6 +1,7 @@
 //! Messages in bytes.
-use crate::calls;
-use crate::{check, DecodeError, Limits, Links, Profile, Record, Refusal};
+use crate::proved::ndef_format::Kind;
+use crate::record::Within;
+use crate::{check, DecodeError, Limits, Links, Payloads, Profile, Record, Refusal};
 use core::fmt;
 use core::iter::FusedIterator;
 
@@ -28,6 +29,7 @@ pub struct Message<'a> {
     rest: &'a [u8],
     records: u32,
     profile: Profile,
+    payloads: Payloads,
 }
 
 impl<'a> Message<'a> {
@@ -50,13 +52,20 @@ impl<'a> Message<'a> {
     pub fn parse_within(bytes: &'a [u8], limits: &Limits) -> Result<Self, Refusal> {
         let checked = check(bytes, limits)?;
         let (bytes, rest) = bytes.split_at(checked.length as usize);
-        Ok(Self { bytes, rest, records: checked.records, profile: limits.profile() })
+        Ok(Self::known(bytes, rest, checked.records, limits))
+    }
+
+    /// The message of bytes that were checked within these limits.
+    #[inline]
+    pub(crate) fn known(bytes: &'a [u8], rest: &'a [u8], records: u32, limits: &Limits) -> Self {
+        Self { bytes, rest, records, profile: limits.profile(), payloads: limits.payloads() }
     }
 
     /// Its records, the first one first.
     #[inline]
     pub fn records(&self) -> Records<'a> {
-        Records { bytes: self.bytes, at: 0, left: Left::Counted(self.records), profile: self.profile }
+        let within = self.within();
+        Records { bytes: self.bytes, at: 0, left: Left::Counted(self.records), within, profile: self.profile }
     }
 
     /// How many records it has, at least 1.
@@ -86,7 +95,7 @@ impl<'a> Message<'a> {
     /// Its first record with this id. No record has the empty id.
     #[must_use]
     pub fn record_with_id(&self, id: &[u8]) -> Option<Record<'a>> {
-        calls::find_id(self.bytes, 0, id).map(|told| Record::of(self.bytes, told, self.profile))
+        self.records().find(|record| record.id() == id && !id.is_empty())
     }
 
     /// The links of its first handover request or handover select, or none if it has neither. Each link is an
@@ -95,7 +104,7 @@ impl<'a> Message<'a> {
     /// # Errors
     ///
     /// The payload of the handover is not one of its type. The offset counts from the first byte of the payload. This
-    /// happens only if the message was parsed with [`Payloads::Opaque`](crate::Payloads::Opaque).
+    /// happens only if the message was parsed with [`Payloads::Opaque`].
     #[cfg(feature = "alloc")]
     pub fn links(&self) -> Result<Links<'a>, Refusal> {
         match self.handover() {
@@ -123,11 +132,19 @@ impl<'a> Message<'a> {
     /// The record that begins at an offset.
     #[cfg(feature = "alloc")]
     pub(crate) fn record_at(&self, at: usize) -> Record<'a> {
-        Record::at(self.bytes, at, self.profile)
+        Record::at(self.bytes, at, self.within(), self.profile)
+    }
+
+    /// What was checked of its payloads.
+    fn within(&self) -> Within {
+        match self.payloads {
+            Payloads::Typed => Within::Typed,
+            Payloads::Opaque => Within::Opaque,
+        }
     }
 
     fn handover(&self) -> Option<Record<'a>> {
-        self.records().find(|record| record.is_well_known(b"Hr") || record.is_well_known(b"Hs"))
+        self.records().find(|record| matches!(record.type_kind(), Kind::Request | Kind::Select))
     }
 
     /// Its canonical bytes: no record is chunked, and each length is as short as it can be.
@@ -201,14 +218,20 @@ pub struct Records<'a> {
     bytes: &'a [u8],
     at: usize,
     left: Left,
+    within: Within,
     profile: Profile,
 }
 
 impl<'a> Records<'a> {
-    /// The records of a message within a payload, which was checked with the payload. No bytes have none.
-    pub(crate) fn within(bytes: &'a [u8], profile: Profile) -> Self {
-        let left = if bytes.is_empty() { Left::Counted(0) } else { Left::Some };
-        Self { bytes, at: 0, left, profile }
+    /// The records of a message, which ends with the bytes; no bytes have none.
+    pub(crate) fn within(message: &'a [u8], within: Within, profile: Profile) -> Self {
+        let left = if message.is_empty() { Left::Counted(0) } else { Left::Some };
+        Self { bytes: message, at: 0, left, within, profile }
+    }
+
+    /// The next record, if one is left, whose payload is of this kind, and was validated.
+    pub(crate) fn next_of(&mut self, kind: Kind) -> Option<Record<'a>> {
+        self.find(|record| record.checked_kind() == kind)
     }
 }
 
@@ -220,7 +243,7 @@ impl<'a> Iterator for Records<'a> {
         if let Left::Counted(0) = self.left {
             return None;
         }
-        let record = Record::at(self.bytes, self.at, self.profile);
+        let record = Record::at(self.bytes, self.at, self.within, self.profile);
         self.at = record.end();
         self.left = match self.left {
             Left::Counted(left) => Left::Counted(left - 1),
@@ -230,14 +253,17 @@ impl<'a> Iterator for Records<'a> {
         Some(record)
     }
 
+    /// The records of a message within a payload are counted by a walk over them.
     fn size_hint(&self) -> (usize, Option<usize>) {
-        match self.left {
-            Left::Counted(left) => (left as usize, Some(left as usize)),
-            Left::Some => (1, None),
-        }
+        let left = match self.left {
+            Left::Counted(left) => left as usize,
+            Left::Some => self.clone().fold(0, |count, _| count + 1),
+        };
+        (left, Some(left))
     }
 }
 
+impl ExactSizeIterator for Records<'_> {}
 impl FusedIterator for Records<'_> {}
 
 impl fmt::Debug for Records<'_> {

@@ -101,7 +101,13 @@ impl<'a> MessageBuilder<'a> {
 
     fn write(&self, bytes: &mut Vec<u8>) -> Result<(), EncodeError> {
         for (index, record) in self.records.iter().enumerate() {
-            record.write(self.form, (index, self.records.len()), bytes).map_err(|_| EncodeError::Record(index))?;
+            let encoder = record.begin(self.form, (index, self.records.len()));
+            let (mut encoder, mut at) = (encoder.ok_or(EncodeError::Record(index))?, bytes.len());
+            while !encoder.is_whole() {
+                bytes.resize(at + record.usual_size(), 0);
+                at += record.step(&mut encoder, &mut bytes[at..]);
+                bytes.truncate(at);
+            }
         }
         Ok(())
     }

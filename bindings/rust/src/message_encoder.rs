@@ -1,5 +1,5 @@
 //! Messages written in steps.
-use crate::calls::{self, Writer};
+use crate::proved::ndef_message::RecordEncoder;
 use crate::{Checker, EncodeError, Form, NewRecord, Refusal};
 
 /// A message of records that is written in steps, to buffers of any size: it is never whole in memory.
@@ -23,7 +23,7 @@ pub struct MessageEncoder<'a> {
     checker: Option<Checker>,
     /// The index of the record that is written, and how far it is, if it is begun.
     index: usize,
-    writer: Option<Writer>,
+    encoder: Option<RecordEncoder>,
     /// The bytes that are written, and those before this record.
     length: u64,
     before: u64,
@@ -38,7 +38,7 @@ impl<'a> MessageEncoder<'a> {
             form,
             checker: form.limits.map(|limits| Checker::new(&limits)),
             index: 0,
-            writer: None,
+            encoder: None,
             length: 0,
             before: 0,
             failed: records.is_empty().then_some(EncodeError::NoRecord),
@@ -66,20 +66,19 @@ impl<'a> MessageEncoder<'a> {
     /// Writes the next bytes of the record, and checks them; of a record that is whole it goes on to the next one.
     fn step(&mut self, buffer: &mut [u8]) -> Result<usize, EncodeError> {
         let record = &self.records[self.index];
-        if self.writer.is_none() {
-            self.writer = record.begin(self.form, (self.index, self.records.len()));
+        if self.encoder.is_none() {
+            self.encoder = record.begin(self.form, (self.index, self.records.len()));
         }
-        let Some(writer) = &mut self.writer else { return Err(EncodeError::Record(self.index)) };
-        let part = &record.payload()[writer.taken as usize..];
-        let (status, count) = calls::writer_next(writer, record.kind(), record.id(), part, buffer);
-        if status != calls::OK {
-            (self.index, self.writer, self.before) = (self.index + 1, None, self.length);
-            return Ok(0);
-        }
+        let Some(encoder) = &mut self.encoder else { return Err(EncodeError::Record(self.index)) };
+        let count = record.step(encoder, buffer);
+        let is_whole = encoder.is_whole();
         self.length += count as u64;
         if let Some(Err(refusal)) = self.checker.as_mut().map(|checker| checker.feed(&buffer[..count])) {
             let refusal = Refusal { at: refusal.at - self.before, ..refusal };
             return Err(EncodeError::Refused { record: self.index, refusal });
+        }
+        if is_whole {
+            (self.index, self.encoder, self.before) = (self.index + 1, None, self.length);
         }
         Ok(count)
     }

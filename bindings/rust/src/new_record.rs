@@ -1,6 +1,7 @@
 //! Records to be written.
-use crate::calls::{self, Buffer, Unfilled, Writer, Writing};
-use crate::{check, Bytes, EncodeError, Limits, Profile, Record, Records, Refusal, Tnf};
+use crate::proved::ndef_message::{self, RecordEncoder, RecordPlan};
+use crate::record::Within;
+use crate::{check, promised, Bytes, EncodeError, Limits, Profile, Record, Records, Refusal, Tnf};
 use core::num::NonZeroU32;
 
 /// How records are written.
@@ -25,7 +26,7 @@ impl Form {
     /// Looks whether a message that was written is one within the limits.
     pub(crate) fn check(self, message: &[u8]) -> Result<(), EncodeError> {
         let Some(Err(refusal)) = self.limits.map(|limits| check(message, &limits)) else { return Ok(()) };
-        let mut records = Records::within(message, Profile::Standard).enumerate();
+        let mut records = Records::within(message, Within::Opaque, Profile::Standard).enumerate();
         let is_there =
             |(_, record): &(usize, Record<'_>)| refusal.at < (record.place() + record.as_bytes().len()) as u64;
         let (record, begun) = records.find(is_there).map_or((0, 0), |(index, record)| (index, record.place() as u64));
@@ -57,12 +58,13 @@ impl Position {
         }
     }
 
-    fn flags(self) -> u32 {
+    /// Whether the record is the first one, and the last one.
+    fn ends(self) -> (bool, bool) {
         match self {
-            Self::Only => calls::WRITE_FIRST | calls::WRITE_LAST,
-            Self::First => calls::WRITE_FIRST,
-            Self::Middle => 0,
-            Self::Last => calls::WRITE_LAST,
+            Self::Only => (true, true),
+            Self::First => (true, false),
+            Self::Middle => (false, false),
+            Self::Last => (false, true),
         }
     }
 }
@@ -168,26 +170,30 @@ impl<'a> NewRecord<'a> {
         16 + self.kind.len() + self.id.len() + self.payload.len()
     }
 
-    /// Writes it as the record with an index, out of `count` records.
-    pub(crate) fn write(
-        &self,
-        form: Form,
-        place: (usize, usize),
-        buffer: &mut (impl Buffer + ?Sized),
-    ) -> Result<usize, Unfilled> {
-        calls::write_record(&self.kind, &self.id, &self.payload, &self.how(form, Position::of(place)), buffer)
+    /// Begins to write it as the record with an index, out of `count` records. `None`: there is no such record.
+    pub(crate) fn begin(&self, form: Form, place: (usize, usize)) -> Option<RecordEncoder> {
+        RecordEncoder::new(self.plan(form, Position::of(place), self.payload.len()))
     }
 
-    /// Begins to write it so in steps. `None`: there is no such record.
-    pub(crate) fn begin(&self, form: Form, place: (usize, usize)) -> Option<Writer> {
-        calls::writer_begin(self.kind.len(), self.id.len(), self.payload.len(), &self.how(form, Position::of(place)))
+    /// Writes its next bytes, as many as there are and fit, and answers how many they are.
+    pub(crate) fn step(&self, encoder: &mut RecordEncoder, buffer: &mut [u8]) -> usize {
+        let part = &self.payload[encoder.taken()..];
+        promised(encoder.next(&self.kind, &self.id, part, buffer))
     }
 
-    /// How it is written at a place.
-    pub(crate) fn how(&self, form: Form, position: Position) -> Writing {
-        let long = if form.long { calls::WRITE_LONG } else { 0 };
-        let chunk = form.chunk.map_or(0, NonZeroU32::get);
-        Writing { tnf: self.tnf.number(), flags: position.flags() | long, chunk }
+    /// How it is written at a place, where its whole payload has this many bytes.
+    pub(crate) fn plan(&self, form: Form, position: Position, payload_length: usize) -> RecordPlan {
+        let (first, last) = position.ends();
+        RecordPlan {
+            tnf: self.tnf.proved(),
+            kind_length: self.kind.len(),
+            id_length: self.id.len(),
+            payload_length,
+            first,
+            last,
+            form: if form.long { ndef_message::Form::Long } else { ndef_message::Form::Short },
+            size: form.chunk.map(NonZeroU32::get),
+        }
     }
 }
 
@@ -220,22 +226,24 @@ pub fn encode(records: &[NewRecord<'_>], form: Form, buffer: &mut [u8]) -> Resul
     if records.is_empty() {
         return Err(EncodeError::NoRecord);
     }
-    let (mut length, mut fits) = (0usize, true);
+    let (mut length, mut needed) = (0, 0usize);
     for (index, record) in records.iter().enumerate() {
-        let left = if fits { &mut buffer[length..] } else { &mut [] };
-        let count = match record.write(form, (index, records.len()), left) {
-            Ok(count) => count,
-            Err(Unfilled::BufferTooSmall(needed)) => {
-                fits = false;
-                needed
-            }
-            Err(_) => return Err(EncodeError::Record(index)),
-        };
-        length = length.saturating_add(count);
+        let mut encoder = record.begin(form, (index, records.len())).ok_or(EncodeError::Record(index))?;
+        length += record.step(&mut encoder, &mut buffer[length..]);
+        needed = needed.saturating_add(rest_of(record, &mut encoder));
     }
-    if !fits {
-        return Err(EncodeError::BufferTooSmall(length));
+    if needed > 0 {
+        return Err(EncodeError::BufferTooSmall(length.saturating_add(needed)));
     }
     form.check(&buffer[..length])?;
     Ok(length)
+}
+
+/// How many bytes of a record are not written yet.
+fn rest_of(record: &NewRecord<'_>, encoder: &mut RecordEncoder) -> usize {
+    let (mut buffer, mut count) = ([0; 64], 0usize);
+    while !encoder.is_whole() {
+        count = count.saturating_add(record.step(encoder, &mut buffer));
+    }
+    count
 }

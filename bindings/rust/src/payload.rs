@@ -1,5 +1,9 @@
 //! The values of payloads.
 use crate::bytes::Bytes;
+use crate::proved::ndef_format::{Kind, Table};
+use crate::proved::ndef_lang::Leaf;
+use crate::proved::ndef_nest::Nest;
+use crate::proved::ndef_types::accept;
 use crate::{HandoverCarrier, HandoverRequest, HandoverSelect, Profile, Refusal, SmartPoster, Text, Tnf, Uri};
 
 /// What the payload of a record is, as its type says.
@@ -53,9 +57,17 @@ impl PayloadKind {
         Self::HandoverError,
     ];
 
-    /// The kind with a number; one that only a newer library knows is [`Other`](Self::Other).
-    pub(crate) fn of(number: u32) -> Self {
-        Self::ALL.get(number as usize).copied().unwrap_or(Self::Other)
+    /// The kind of a record of this type, by the kind of payload that holds its message.
+    pub(crate) fn of(tnf: Tnf, name: &[u8], within: Self) -> Self {
+        let kind = Kind::of(tnf.proved(), name);
+        let kind = match within {
+            Self::Other => kind.outer(),
+            Self::SmartPoster => Table::SmartPoster.checked(kind),
+            Self::HandoverRequest => Table::Request.checked(kind),
+            Self::HandoverSelect => Table::Select.checked(kind),
+            _ => Kind::Other,
+        };
+        Self::ALL[kind as usize]
     }
 
     /// Its number.
@@ -63,6 +75,15 @@ impl PayloadKind {
     pub const fn number(self) -> u32 {
         self as u32
     }
+}
+
+/// Looks whether a payload is one of its kind.
+pub(crate) fn check_payload(kind: Kind, profile: Profile, payload: &[u8]) -> Result<(), Refusal> {
+    match kind.table() {
+        Some(_) => accept::<Nest>(kind, profile.proved(), payload),
+        None => accept::<Leaf>(kind, profile.proved(), payload),
+    }
+    .map_err(Refusal::of)
 }
 
 /// The value of a payload, by the type of its record.
@@ -93,18 +114,26 @@ impl<'a> Payload<'a> {
     ///
     /// The payload is not one of its type. The offset counts from its first byte.
     pub fn parse(tnf: Tnf, kind: &[u8], payload: &'a [u8], profile: Profile) -> Result<Self, Refusal> {
-        Self::of(tnf, kind, payload.into(), profile)
+        Self::of(Kind::of(tnf.proved(), kind), payload.into(), profile)
     }
 
-    pub(crate) fn of(tnf: Tnf, kind: &[u8], payload: Bytes<'a>, profile: Profile) -> Result<Self, Refusal> {
-        Ok(match (tnf, kind) {
-            (Tnf::WellKnown, b"T") => Self::Text(Text::of(payload)?),
-            (Tnf::WellKnown, b"U") => Self::Uri(Uri::of(payload, profile)?),
-            (Tnf::WellKnown, b"Sp") => Self::SmartPoster(SmartPoster::of(payload, profile)?),
-            (Tnf::WellKnown, b"Hr") => Self::HandoverRequest(HandoverRequest::of(payload, profile)?),
-            (Tnf::WellKnown, b"Hs") => Self::HandoverSelect(HandoverSelect::of(payload, profile)?),
-            (Tnf::WellKnown, b"Hc") => Self::HandoverCarrier(HandoverCarrier::of(payload)?),
+    pub(crate) fn of(kind: Kind, payload: Bytes<'a>, profile: Profile) -> Result<Self, Refusal> {
+        if kind.outer() != Kind::Other {
+            check_payload(kind, profile, &payload)?;
+        }
+        Ok(Self::known(kind, payload, profile))
+    }
+
+    /// The value of a payload that is known to be of its kind.
+    pub(crate) fn known(kind: Kind, payload: Bytes<'a>, profile: Profile) -> Self {
+        match kind {
+            Kind::Text => Self::Text(Text::known(payload)),
+            Kind::Uri => Self::Uri(Uri::known(payload)),
+            Kind::SmartPoster => Self::SmartPoster(SmartPoster::known(payload, profile)),
+            Kind::Request => Self::HandoverRequest(HandoverRequest::known(payload, profile)),
+            Kind::Select => Self::HandoverSelect(HandoverSelect::known(payload, profile)),
+            Kind::Carrier => Self::HandoverCarrier(HandoverCarrier::known(payload)),
             _ => Self::Other,
-        })
+        }
     }
 }

@@ -1,6 +1,8 @@
 //! Smart posters.
 use crate::bytes::{Bytes, Quoted};
-use crate::calls;
+use crate::payload::check_payload;
+use crate::proved::ndef_format::{Kind, Table};
+use crate::record::Within;
 use crate::{promised, NewRecord, Profile, Records, Refusal, Text, Tnf, Uri};
 use core::fmt;
 
@@ -23,15 +25,6 @@ pub enum Action {
 }
 
 impl Action {
-    fn of(number: u32) -> Self {
-        match number {
-            0 => Self::Do,
-            1 => Self::Save,
-            2 => Self::Open,
-            _ => Self::Other(promised(number.try_into())),
-        }
-    }
-
     /// Its number.
     #[must_use]
     pub const fn number(self) -> u8 {
@@ -46,7 +39,12 @@ impl Action {
 
 impl From<u8> for Action {
     fn from(number: u8) -> Self {
-        Self::of(number.into())
+        match number {
+            0 => Self::Do,
+            1 => Self::Save,
+            2 => Self::Open,
+            _ => Self::Other(number),
+        }
     }
 }
 
@@ -62,8 +60,6 @@ impl From<Action> for u8 {
 #[derive(Clone)]
 pub struct SmartPoster<'a> {
     payload: Bytes<'a>,
-    parts: calls::PosterParts,
-    uri_length: usize,
     profile: Profile,
 }
 
@@ -74,14 +70,18 @@ impl<'a> SmartPoster<'a> {
     ///
     /// The payload is not that of a smart poster. The offset counts from its first byte.
     pub fn parse(payload: &'a [u8], profile: Profile) -> Result<Self, Refusal> {
-        Self::of(payload.into(), profile)
+        check_payload(Kind::SmartPoster, profile, payload)?;
+        Ok(Self::known(payload.into(), profile))
     }
 
-    pub(crate) fn of(payload: Bytes<'a>, profile: Profile) -> Result<Self, Refusal> {
-        let parts = calls::poster(&payload, profile.flags()).map_err(Refusal::of)?;
-        let uri = calls::part(&payload, parts.uri_at, parts.uri_length);
-        let uri_length = promised(calls::uri_length(uri, profile.flags()));
-        Ok(Self { payload, parts, uri_length, profile })
+    /// The smart poster of a payload that is known to be one.
+    pub(crate) fn known(payload: Bytes<'a>, profile: Profile) -> Self {
+        Self { payload, profile }
+    }
+
+    /// The payload of its first record of a kind.
+    fn first(&self, kind: Kind) -> Option<&[u8]> {
+        self.records().next_of(kind)?.payload()
     }
 
     /// Begins a smart poster for a URI.
@@ -104,8 +104,7 @@ impl<'a> SmartPoster<'a> {
     /// The URI.
     #[must_use]
     pub fn uri(&self) -> Uri<'_> {
-        let payload = calls::part(&self.payload, self.parts.uri_at, self.parts.uri_length);
-        Uri::within(payload, self.uri_length, self.profile)
+        Uri::known(promised(self.first(Kind::Uri).ok_or(())).into())
     }
 
     /// The titles, each with its language.
@@ -128,25 +127,24 @@ impl<'a> SmartPoster<'a> {
     /// What it recommends to do; of several recommendations the first.
     #[must_use]
     pub fn action(&self) -> Option<Action> {
-        (self.parts.has_action != 0).then(|| Action::of(self.parts.action))
+        self.first(Kind::Action)?.first().map(|number| Action::from(*number))
     }
 
     /// The size in bytes of what the URI leads to; of several sizes the first.
     #[must_use]
     pub fn size(&self) -> Option<u32> {
-        (self.parts.has_size != 0).then_some(self.parts.size)
+        self.first(Kind::Size)?.try_into().map(u32::from_be_bytes).ok()
     }
 
     /// The media type of what the URI leads to; of several types the first.
     #[must_use]
     pub fn media_type(&self) -> Option<&str> {
-        let record = self.records().find(|record| record.is_well_known(b"t"))?;
-        Some(promised(core::str::from_utf8(record.payload()?)))
+        Some(promised(core::str::from_utf8(self.first(Kind::MediaType)?)))
     }
 
     /// All of its records.
     pub fn records(&self) -> Records<'_> {
-        Records::within(&self.payload, self.profile)
+        Records::within(&self.payload, Within::Payload(Table::SmartPoster), self.profile)
     }
 
     /// Its payload.
@@ -192,8 +190,7 @@ impl<'a> Iterator for Titles<'a> {
     type Item = Text<'a>;
 
     fn next(&mut self) -> Option<Text<'a>> {
-        let record = self.0.find(|record| record.is_well_known(b"T"))?;
-        Some(promised(Text::parse(record.payload()?)))
+        Some(Text::known(self.0.next_of(Kind::Text)?.payload()?.into()))
     }
 }
 

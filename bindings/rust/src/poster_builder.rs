@@ -1,6 +1,8 @@
 //! Smart posters built of their records.
 use crate::bytes::Bytes;
 use crate::calls::{self, Unfilled};
+use crate::payload::check_payload;
+use crate::proved::ndef_format::Kind;
 use crate::{promised, Action, EncodeError, MessageBuilder, NewRecord, Profile, SmartPoster, Text, Tnf, Uri};
 use alloc::vec::Vec;
 
@@ -63,6 +65,7 @@ impl<'a> SmartPosterBuilder<'a> {
     /// [`EncodeError::Poster`]: together they make no smart poster, as with a second URI.
     pub fn build(self) -> Result<SmartPoster<'static>, EncodeError> {
         let payload = self.records?.build()?;
-        SmartPoster::of(Bytes::Owned(payload), Profile::Strict).map_err(EncodeError::Poster)
+        check_payload(Kind::SmartPoster, Profile::Strict, &payload).map_err(EncodeError::Poster)?;
+        Ok(SmartPoster::known(Bytes::Owned(payload), Profile::Strict))
     }
 }

@@ -32,6 +32,16 @@ impl core::error::Error for ReadError {
     }
 }
 
+/// The error of the reader, or one of the kind [`InvalidData`](ErrorKind::InvalidData).
+impl From<ReadError> for io::Error {
+    fn from(error: ReadError) -> Self {
+        match error {
+            ReadError::Io(error) => error,
+            ReadError::Refused(refusal) => refusal.into(),
+        }
+    }
+}
+
 impl From<io::Error> for ReadError {
     fn from(error: io::Error) -> Self {
         Self::Io(error)

@@ -1,6 +1,7 @@
 //! Records in the bytes of a message.
 use crate::bytes::{Bytes, Quoted};
-use crate::calls;
+use crate::proved::ndef_format::{Kind, Table};
+use crate::proved::ndef_piece::{whole_piece, WholePiece};
 use crate::{promised, Chunks, DecodeError, Part, Payload, PayloadKind, Profile, Tnf};
 use core::fmt;
 
@@ -9,85 +10,110 @@ use crate::Refusal;
 #[cfg(feature = "alloc")]
 use alloc::{borrow::Cow, vec::Vec};
 
+/// The message that a record is of, and what was checked of it.
+#[derive(Clone, Copy)]
+pub(crate) enum Within {
+    /// A message whose payloads were validated.
+    Typed,
+    /// A message whose payloads were not validated.
+    Opaque,
+    /// The message in a payload that was validated.
+    Payload(Table),
+}
+
+impl Within {
+    /// The kind whose payloads a record has there, by the kind that its type names; Other if its payload was not validated.
+    fn checked(self, kind: Kind) -> Kind {
+        match self {
+            Self::Typed => kind.outer(),
+            Self::Opaque => Kind::Other,
+            Self::Payload(table) => table.checked(kind),
+        }
+    }
+}
+
+/// The chunk with which some bytes of a message that was checked begin.
+#[inline(always)]
+pub(crate) fn chunk(bytes: &[u8]) -> WholePiece<'_> {
+    promised(whole_piece(bytes).ok_or(()))
+}
+
 /// A record of a message. It borrows the message's bytes.
 ///
 /// With the feature `alloc`, records are equal if their type name formats, types, ids and whole payloads are.
 #[derive(Clone, Copy)]
 pub struct Record<'a> {
-    /// The bytes of its message, or of one within a payload.
-    message: &'a [u8],
-    kind: &'a [u8],
-    id: &'a [u8],
-    /// What its first chunk has of the payload.
-    first: &'a [u8],
+    /// The bytes of its message, or of one within a payload, from the record on.
+    bytes: &'a [u8],
+    first: WholePiece<'a>,
     at: usize,
-    end: usize,
+    /// The number of its bytes, with all of its chunks.
+    length: usize,
     payload_length: usize,
     chunk_count: usize,
-    tnf: Tnf,
     is_last: bool,
+    within: Within,
     profile: Profile,
 }
 
 impl<'a> Record<'a> {
-    /// The record that begins at an offset of a message or of one within a payload. It is always inlined, so that parts
-    /// which nobody looks at are not made: that halves the time of a walk beyond the library's own.
+    /// The record with which the bytes of a message begin from an offset on. It is always inlined, so that parts which
+    /// nobody looks at are not made: that halves the time of a walk beyond the library's own.
     #[inline(always)]
-    pub(crate) fn at(message: &'a [u8], at: usize, profile: Profile) -> Self {
-        let mut told = calls::Record::default();
-        promised(calls::record_at(message, at, &mut told));
-        Self::of(message, told, profile)
-    }
-
-    /// The record of a message whose parts the library gave.
-    #[inline(always)]
-    pub(crate) fn of(message: &'a [u8], told: calls::Record, profile: Profile) -> Self {
-        Self {
-            message,
-            kind: calls::part(message, told.type_at, told.type_length),
-            id: calls::part(message, told.id_at, told.id_length),
-            first: calls::part(message, told.payload_at, told.part_length),
-            at: told.at,
-            end: told.end,
-            payload_length: told.payload_length,
-            chunk_count: told.chunks,
-            tnf: Tnf::of(told.tnf),
-            is_last: told.last != 0,
-            profile,
+    pub(crate) fn at(message: &'a [u8], at: usize, within: Within, profile: Profile) -> Self {
+        let bytes = &message[at..];
+        let first = chunk(bytes);
+        let (mut last, mut payload_length, mut chunk_count) = (first, first.payload.len(), 1);
+        while last.is_chunked() {
+            last = chunk(last.rest);
+            payload_length += last.payload.len();
+            chunk_count += 1;
         }
+        let length = bytes.len() - last.rest.len();
+        Self { bytes, first, at, length, payload_length, chunk_count, is_last: last.is_last(), within, profile }
     }
 
     /// Where the next record begins.
     #[inline]
     pub(crate) fn end(&self) -> usize {
-        self.end
+        self.at + self.length
+    }
+
+    /// The kind that its type names.
+    pub(crate) fn type_kind(&self) -> Kind {
+        Kind::of(self.tnf().proved(), self.kind())
+    }
+
+    /// The kind whose payloads it has; Other if its payload was not validated.
+    pub(crate) fn checked_kind(&self) -> Kind {
+        self.within.checked(self.type_kind())
     }
 
     /// Its type name format: what its type is.
     #[inline]
     #[must_use]
     pub fn tnf(&self) -> Tnf {
-        self.tnf
+        Tnf::of(self.first.tnf())
     }
 
     /// Its type, at most 255 bytes.
     #[inline]
     #[must_use]
     pub fn kind(&self) -> &'a [u8] {
-        self.kind
+        self.first.kind
     }
 
     /// Its id, at most 255 bytes. It is empty if the record has none.
     #[inline]
     #[must_use]
     pub fn id(&self) -> &'a [u8] {
-        self.id
+        self.first.id
     }
 
     /// Whether it has this type, and the NFC Forum defines the type.
     #[must_use]
     pub fn is_well_known(&self, kind: &[u8]) -> bool {
-        self.tnf == Tnf::WellKnown && self.kind == kind
+        self.tnf() == Tnf::WellKnown && self.kind() == kind
     }
 
     /// What its payload is. `within` is [`PayloadKind::Other`] for a record of a message itself; for one of the message
@@ -103,9 +129,7 @@ impl<'a> Record<'a> {
     /// ```
     #[must_use]
     pub fn payload_kind(&self, within: PayloadKind) -> PayloadKind {
-        let mut told = calls::Record::default();
-        promised(calls::record_at(self.message, self.at, &mut told));
-        PayloadKind::of(calls::kind(self.message, &told, within.number()))
+        PayloadKind::of(self.tnf(), self.kind(), within)
     }
 
     /// The number of bytes of its payload, its chunks joined.
@@ -118,7 +142,7 @@ impl<'a> Record<'a> {
     #[inline]
     #[must_use]
     pub fn payload(&self) -> Option<&'a [u8]> {
-        (self.chunk_count == 1).then_some(self.first)
+        (self.chunk_count == 1).then_some(self.first.payload)
     }
 
     /// Its payload. One that lies in several chunks is joined.
@@ -129,7 +153,7 @@ impl<'a> Record<'a> {
             Some(payload) => Cow::Borrowed(payload),
             None => {
                 let mut joined = Vec::with_capacity(self.payload_len());
-                promised(calls::payload(self.message, self.at, &mut joined));
+                self.parts().for_each(|part| joined.extend_from_slice(part));
                 Cow::Owned(joined)
             }
         }
@@ -147,19 +171,24 @@ impl<'a> Record<'a> {
         if let Some(payload) = self.payload() {
             return Ok(payload);
         }
-        let count = calls::payload(self.message, self.at, buffer).map_err(DecodeError::of)?;
-        Ok(&buffer[..count])
+        let joined = buffer.get_mut(..self.payload_len()).ok_or(DecodeError::BufferTooSmall(self.payload_len()))?;
+        let mut at = 0;
+        for part in self.parts() {
+            joined[at..][..part.len()].copy_from_slice(part);
+            at += part.len();
+        }
+        Ok(joined)
     }
 
     /// The part of the payload that each chunk has. A record that is not chunked has one.
     #[cfg(feature = "alloc")]
     pub fn chunks(&self) -> Chunks<'a> {
-        if let Some(payload) = self.payload() {
-            return Chunks::one(payload);
-        }
-        let mut parts = alloc::vec![Part::default(); self.chunk_count()];
-        promised(calls::chunks(self.message, self.at, &mut parts));
-        Chunks::owned(self.message, parts)
+        self.parts()
+    }
+
+    /// The same.
+    fn parts(&self) -> Chunks<'a> {
+        Chunks::of(self.bytes, self.chunk_count)
     }
 
     /// The part of the payload that each chunk has. The array needs [`chunk_count`](Self::chunk_count) elements, or none if
@@ -172,11 +201,10 @@ impl<'a> Record<'a> {
     where
         'a: 'r,
     {
-        if let Some(payload) = self.payload() {
-            return Ok(Chunks::one(payload));
+        match self.chunk_count {
+            count if count > 1 && count > buffer.len() => Err(DecodeError::BufferTooSmall(count)),
+            _ => Ok(self.parts()),
         }
-        let count = calls::chunks(self.message, self.at, buffer).map_err(DecodeError::of)?;
-        Ok(Chunks::borrowed(self.message, &buffer[..count]))
     }
 
     /// The value of its payload. A payload in several chunks is joined first.
@@ -188,7 +216,7 @@ impl<'a> Record<'a> {
     /// within a payload may have one.
     #[cfg(feature = "alloc")]
     pub fn decode(&self) -> Result<Payload<'a>, Refusal> {
-        Payload::of(self.tnf, self.kind, self.payload_cow().into(), self.profile)
+        self.value_of(self.payload_cow().into())
     }
 
     /// The value of its payload. A payload in several chunks is joined in the buffer first.
@@ -201,7 +229,15 @@ impl<'a> Record<'a> {
         'a: 'r,
     {
         let payload = Bytes::Borrowed(self.payload_in(buffer)?);
-        Ok(Payload::of(self.tnf, self.kind, payload, self.profile)?)
+        Ok(self.value_of(payload)?)
+    }
+
+    /// The value of its whole payload, which is looked at only if it was not validated with the message.
+    fn value_of<'r>(&self, payload: Bytes<'r>) -> Result<Payload<'r>, crate::Refusal> {
+        match self.checked_kind() {
+            Kind::Other => Payload::of(self.type_kind(), payload, self.profile),
+            kind => Ok(Payload::known(kind, payload, self.profile)),
+        }
     }
 
     /// The number of its chunks, 1 if it is not chunked.
@@ -219,7 +255,7 @@ impl<'a> Record<'a> {
     /// Its bytes in the message, with all of its chunks.
     #[must_use]
     pub fn as_bytes(&self) -> &'a [u8] {
-        calls::part(self.message, self.at, self.end - self.at)
+        &self.bytes[..self.length]
     }
 
     /// Whether it is the last record of its message.
@@ -231,7 +267,7 @@ impl<'a> Record<'a> {
 
     #[cfg(feature = "alloc")]
     fn value(&self) -> (Tnf, &'a [u8], &'a [u8], Cow<'a, [u8]>) {
-        (self.tnf, self.kind, self.id, self.payload_cow())
+        (self.tnf(), self.kind(), self.id(), self.payload_cow())
     }
 }
 

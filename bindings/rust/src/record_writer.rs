@@ -1,5 +1,5 @@
 //! Records whose payload is written in parts.
-use crate::calls::{self, Writer};
+use crate::proved::ndef_message::RecordEncoder;
 use crate::{EncodeError, Form, NewRecord, Position};
 use std::io::{self, Write};
 
@@ -27,7 +27,7 @@ pub struct RecordWriter<'a, W: Write> {
     to: W,
     record: NewRecord<'a>,
     length: u32,
-    writer: Writer,
+    encoder: RecordEncoder,
 }
 
 impl<'a, W: Write> RecordWriter<'a, W> {
@@ -39,10 +39,9 @@ impl<'a, W: Write> RecordWriter<'a, W> {
     /// Of the kind [`InvalidInput`](io::ErrorKind::InvalidInput): [`EncodeError::Record`] with the index 0, and [`EncodeError::Payload`] if the
     /// payload of `record` is longer than `length`. Nothing is written then. Any other error is one of the writer.
     pub fn begin(to: W, record: NewRecord<'a>, length: u32, position: Position, form: Form) -> io::Result<Self> {
-        let how = record.how(form, position);
-        let begun = calls::writer_begin(record.kind().len(), record.id().len(), length as usize, &how);
-        let writer = begun.ok_or(EncodeError::Record(0))?;
-        let mut begun = Self { to, record, length, writer };
+        let plan = record.plan(form, position, length as usize);
+        let encoder = RecordEncoder::new(plan).ok_or(EncodeError::Record(0))?;
+        let mut begun = Self { to, record, length, encoder };
         let first = begun.record.take_payload();
         begun.hand_on(&first)?;
         Ok(begun)
@@ -53,29 +52,22 @@ impl<'a, W: Write> RecordWriter<'a, W> {
     /// # Errors
     ///
     /// [`EncodeError::Payload`], of the kind [`InvalidInput`](io::ErrorKind::InvalidInput), if bytes of the payload are missing.
-    pub fn finish(mut self) -> io::Result<W> {
-        match self.next(&[], &mut []) {
-            (calls::OK, _) => Err(EncodeError::Payload(self.length).into()),
-            _ => Ok(self.to),
+    pub fn finish(self) -> io::Result<W> {
+        if self.encoder.is_whole() {
+            Ok(self.to)
+        } else {
+            Err(EncodeError::Payload(self.length).into())
         }
-    }
-
-    /// Writes the next bytes of the record to the buffer: what the library answers, and their number.
-    fn next(&mut self, part: &[u8], buffer: &mut [u8]) -> (u32, usize) {
-        calls::writer_next(&mut self.writer, self.record.kind(), self.record.id(), part, buffer)
     }
 
     /// Hands on the bytes of the record up to the end of a part of its payload.
     fn hand_on(&mut self, part: &[u8]) -> io::Result<()> {
-        let (mut buffer, begin) = ([0; STEP], self.writer.taken);
+        let (mut buffer, begin) = ([0; STEP], self.encoder.taken());
         loop {
-            let left = &part[(self.writer.taken - begin) as usize..];
-            let (status, count) = self.next(left, &mut buffer);
-            match status {
-                calls::OK => self.to.write_all(&buffer[..count])?,
-                calls::END => return Ok(()),
-                _ => return Err(EncodeError::Payload(self.length).into()),
-            }
+            let left = &part[self.encoder.taken() - begin..];
+            let written = self.encoder.next(self.record.kind(), self.record.id(), left, &mut buffer);
+            let count = written.map_err(|_| EncodeError::Payload(self.length))?;
+            self.to.write_all(&buffer[..count])?;
             if count < STEP {
                 return Ok(());
             }

@@ -1,5 +1,5 @@
 //! Where and why bytes are refused.
-use crate::calls;
+use crate::proved::ndef_value;
 use core::fmt;
 
 macro_rules! reasons {
@@ -14,9 +14,20 @@ macro_rules! reasons {
             $(#[doc = $text] $name = $number,)*
         }
 
+        /// The reasons of the proved text.
+        #[cfg(test)]
+        const PROVED: &[ndef_value::Reason] = &[$(ndef_value::Reason::$name),*];
+
         impl Reason {
             /// The reasons, in the order of their numbers.
             pub const ALL: &'static [Reason] = &[$(Reason::$name),*];
+
+            #[inline]
+            fn of(reason: ndef_value::Reason) -> Self {
+                match reason {
+                    $(ndef_value::Reason::$name => Self::$name,)*
+                }
+            }
 
             /// The reason with a number.
             pub const fn from_number(number: u32) -> Option<Self> {
@@ -100,8 +111,8 @@ pub struct Refusal {
 }
 
 impl Refusal {
-    pub(crate) fn of(why: calls::Checked) -> Self {
-        Self { at: why.place, reason: Reason::from_number(why.reason).unwrap_or(Reason::Unlisted) }
+    pub(crate) fn of(refusal: ndef_value::Refusal) -> Self {
+        Self { at: refusal.at, reason: Reason::of(refusal.reason) }
     }
 
     /// What its reason means, in a sentence of English. The function `why` says what was wanted, of the bytes themselves.
@@ -119,7 +130,7 @@ impl Refusal {
 
 impl fmt::Display for Refusal {
     fn fmt(&self, to: &mut fmt::Formatter<'_>) -> fmt::Result {
-        write!(to, "refused at {}: {}", self.at, self.reason)
+        write!(to, "refused at {}: {}: {}", self.at, self.reason.name(), self.sentence())
     }
 }
 
@@ -131,22 +142,9 @@ mod tests {
 
     #[test]
     fn names_are_the_librarys() {
-        for number in 0..200 {
-            let mut buffer = [0; 16];
-            let told = calls::reason_name(number, &mut buffer[..]).map(|count| &buffer[..count]);
-            match Reason::from_number(number) {
-                Some(reason) => assert_eq!((told, reason.number()), (Ok(reason.name().as_bytes()), number)),
-                None => assert_eq!(told, Err(calls::Unfilled::BadArgument)),
-            }
-            let mut buffer = [0; 70];
-            let told = calls::reason_sentence(number, &mut buffer[..]).map(|count| &buffer[..count]);
-            match Reason::from_number(number) {
-                Some(reason) => {
-                    let refusal = Refusal { at: 0, reason };
-                    assert_eq!((told, refusal.sentence()), (Ok(refusal.sentence().as_bytes()), reason.sentence()));
-                }
-                None => assert_eq!(told, Err(calls::Unfilled::BadArgument)),
-            }
+        for (reason, proved) in Reason::ALL.iter().zip(PROVED) {
+            assert_eq!((Reason::of(*proved), proved.number().into()), (*reason, reason.number()));
+            assert_eq!((proved.name(), proved.sentence()), (reason.name().as_bytes(), reason.sentence().as_bytes()));
         }
     }
 }

@@ -1,7 +1,10 @@
 //! Texts.
 use crate::bytes::{Bytes, Quoted};
-use crate::calls::{self, TextPayload};
-use crate::{promised, DecodeError, EncodeError, NewRecord, Refusal, Tnf};
+use crate::calls;
+use crate::payload::check_payload;
+use crate::proved::ndef_format::Kind;
+use crate::proved::ndef_types::{self, TextParts};
+use crate::{DecodeError, EncodeError, NewRecord, Profile, Refusal, Tnf};
 use core::fmt;
 
 #[cfg(feature = "alloc")]
@@ -30,7 +33,7 @@ impl Encoding {
 ///
 /// With the feature `alloc`, texts are equal if their languages and characters are, however these are encoded.
 #[derive(Clone)]
-pub struct Text<'a>(TextPayload<'a>);
+pub struct Text<'a>(Bytes<'a>);
 
 impl<'a> Text<'a> {
     /// The text of the payload of a Text record.
@@ -39,11 +42,17 @@ impl<'a> Text<'a> {
     ///
     /// The payload is not that of a text. The offset counts from its first byte.
     pub fn parse(payload: &'a [u8]) -> Result<Self, Refusal> {
-        Self::of(payload.into())
+        check_payload(Kind::Text, Profile::Strict, payload)?;
+        Ok(Self::known(payload.into()))
     }
 
-    pub(crate) fn of(payload: Bytes<'a>) -> Result<Self, Refusal> {
-        TextPayload::of(payload).map(Self).map_err(Refusal::of)
+    /// The text of a payload that is known to be one.
+    pub(crate) fn known(payload: Bytes<'a>) -> Self {
+        Self(payload)
+    }
+
+    fn parts(&self) -> TextParts<'_> {
+        TextParts::new(&self.0)
     }
 
     /// A text in UTF-8. The language code is ASCII of at most 63 bytes, as `en`.
@@ -66,7 +75,7 @@ impl<'a> Text<'a> {
         let mut payload = Vec::with_capacity(1 + language.len() + text.len());
         calls::write_text(language, text, encoding.flags(), &mut payload)
             .map_err(|unfilled| EncodeError::of(unfilled, EncodeError::Text))?;
-        Ok(promised(Text::of(Bytes::Owned(payload))))
+        Ok(Text::known(Bytes::Owned(payload)))
     }
 
     /// A text whose payload is written to the buffer.
@@ -77,38 +86,37 @@ impl<'a> Text<'a> {
     pub fn new_in(language: &str, text: &str, encoding: Encoding, buffer: &'a mut [u8]) -> Result<Self, EncodeError> {
         let count = calls::write_text(language, text, encoding.flags(), buffer)
             .map_err(|unfilled| EncodeError::of(unfilled, EncodeError::Text))?;
-        Ok(promised(Text::parse(&buffer[..count])))
+        Ok(Text::known(Bytes::Borrowed(&buffer[..count])))
     }
 
     /// The language code, ASCII of at most 63 bytes.
     #[must_use]
     pub fn language(&self) -> &str {
-        self.0.language()
+        self.parts().language()
     }
 
     /// How the payload encodes the text.
     #[must_use]
     pub fn encoding(&self) -> Encoding {
-        if self.0.is_utf16() {
-            Encoding::Utf16
-        } else {
-            Encoding::Utf8
+        match self.parts().encoding() {
+            ndef_types::Encoding::Utf8 => Encoding::Utf8,
+            ndef_types::Encoding::Utf16 => Encoding::Utf16,
         }
     }
 
     /// The text, if the payload has it in UTF-8.
     #[must_use]
     pub fn as_utf8(&self) -> Option<&str> {
-        self.0.utf8()
+        self.parts().utf8()
     }
 
     /// The text. One in UTF-16 is converted, and its byte order mark is skipped.
     #[cfg(feature = "alloc")]
     #[must_use]
     pub fn text(&self) -> Cow<'_, str> {
-        match self.0.utf8() {
+        match self.as_utf8() {
             Some(text) => Cow::Borrowed(text),
-            None => Cow::Owned(self.0.utf8_string()),
+            None => Cow::Owned(calls::text_string(&self.0)),
         }
     }
 
@@ -116,9 +124,12 @@ impl<'a> Text<'a> {
     #[cfg(feature = "alloc")]
     #[must_use]
     pub fn into_text(self) -> Cow<'a, str> {
-        match self.0.borrowed_utf8() {
-            Some(text) => Cow::Borrowed(text),
-            None => Cow::Owned(self.text().into_owned()),
+        match self.0 {
+            Bytes::Borrowed(payload) => match TextParts::new(payload).utf8() {
+                Some(text) => Cow::Borrowed(text),
+                None => Cow::Owned(calls::text_string(payload)),
+            },
+            Bytes::Owned(_) => Cow::Owned(self.text().into_owned()),
         }
     }
 
@@ -128,16 +139,16 @@ impl<'a> Text<'a> {
     ///
     /// [`DecodeError::BufferTooSmall`] alone.
     pub fn text_in<'r>(&'r self, buffer: &'r mut [u8]) -> Result<&'r str, DecodeError> {
-        match self.0.utf8() {
+        match self.as_utf8() {
             Some(text) => Ok(text),
-            None => self.0.utf8_in(buffer).map_err(DecodeError::of),
+            None => calls::text_in(&self.0, buffer).map_err(DecodeError::of),
         }
     }
 
     /// Its payload.
     #[must_use]
     pub fn payload(&self) -> &[u8] {
-        self.0.bytes()
+        &self.0
     }
 
     /// The same text, which borrows nothing.
@@ -158,7 +169,7 @@ compare_by_value! { Text }
 
 impl<'a> From<Text<'a>> for NewRecord<'a> {
     fn from(text: Text<'a>) -> Self {
-        NewRecord::new(Tnf::WellKnown, b"T", text.0.into_bytes())
+        NewRecord::new(Tnf::WellKnown, b"T", text.0)
     }
 }
 

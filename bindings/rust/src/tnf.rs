@@ -1,4 +1,5 @@
 //! Type name formats.
+use crate::proved::ndef_format;
 use crate::NumberError;
 use core::fmt;
 
@@ -41,8 +42,20 @@ impl Tnf {
     }
 
     #[inline]
-    pub(crate) fn of(number: u32) -> Self {
-        crate::promised(Self::from_number(number).ok_or(number))
+    pub(crate) fn of(tnf: ndef_format::Tnf) -> Self {
+        crate::promised(Self::from_number(tnf.code().into()).ok_or(tnf))
+    }
+
+    #[inline]
+    pub(crate) fn proved(self) -> ndef_format::Tnf {
+        match self {
+            Self::Empty => ndef_format::Tnf::Empty,
+            Self::WellKnown => ndef_format::Tnf::WellKnown,
+            Self::Media => ndef_format::Tnf::Media,
+            Self::AbsoluteUri => ndef_format::Tnf::AbsoluteUri,
+            Self::External => ndef_format::Tnf::External,
+            Self::Unknown => ndef_format::Tnf::Unknown,
+        }
     }
 
     /// Its number.

@@ -1,6 +1,9 @@
 //! URIs.
 use crate::bytes::{Bytes, Quoted};
 use crate::calls;
+use crate::payload::check_payload;
+use crate::proved::ndef_format::Kind;
+use crate::proved::ndef_types::{prefix, UriParts};
 use crate::{DecodeError, EncodeError, NewRecord, Profile, Refusal, Tnf};
 use core::fmt;
 
@@ -11,11 +14,7 @@ use alloc::{string::String, vec::Vec};
 ///
 /// With the feature `alloc`, URIs are equal if they are when spelled out.
 #[derive(Clone)]
-pub struct Uri<'a> {
-    payload: Bytes<'a>,
-    length: usize,
-    profile: Profile,
-}
+pub struct Uri<'a>(Bytes<'a>);
 
 impl<'a> Uri<'a> {
     /// The URI of the payload of a URI record.
@@ -24,17 +23,19 @@ impl<'a> Uri<'a> {
     ///
     /// The payload is not that of a URI. The offset counts from its first byte.
     pub fn parse(payload: &'a [u8], profile: Profile) -> Result<Self, Refusal> {
-        Self::of(payload.into(), profile)
+        check_payload(Kind::Uri, profile, payload)?;
+        Ok(Self::known(payload.into()))
     }
 
-    pub(crate) fn of(payload: Bytes<'a>, profile: Profile) -> Result<Self, Refusal> {
-        let length = calls::uri_length(&payload, profile.flags()).map_err(Refusal::of)?;
-        Ok(Self { payload, length, profile })
+    /// The URI of a payload that is known to be one.
+    pub(crate) fn known(payload: Bytes<'a>) -> Self {
+        Self(payload)
     }
 
-    /// A part of a payload that the library gave as the payload of a URI of `length` bytes.
-    pub(crate) fn within(payload: &'a [u8], length: usize, profile: Profile) -> Self {
-        Self { payload: payload.into(), length, profile }
+    /// The prefix that is abbreviated, and what comes after it.
+    fn parts(&self) -> (&'static str, &str) {
+        let parts = UriParts::new(&self.0);
+        (prefix(parts.code()), parts.rest())
     }
 
     /// A URI. Its payload abbreviates the longest prefix that has a code.
@@ -46,7 +47,7 @@ impl<'a> Uri<'a> {
     pub fn new(uri: &str) -> Result<Uri<'static>, EncodeError> {
         let mut payload = Vec::with_capacity(1 + uri.len());
         calls::write_uri(uri, &mut payload).map_err(|unfilled| EncodeError::of(unfilled, EncodeError::Uri))?;
-        Ok(Uri { payload: Bytes::Owned(payload), length: uri.len(), profile: Profile::Strict })
+        Ok(Uri::known(Bytes::Owned(payload)))
     }
 
     /// A URI whose payload is written to the buffer.
@@ -56,20 +57,22 @@ impl<'a> Uri<'a> {
     /// [`EncodeError::Uri`] or [`EncodeError::BufferTooSmall`].
     pub fn new_in(uri: &str, buffer: &'a mut [u8]) -> Result<Self, EncodeError> {
         let count = calls::write_uri(uri, buffer).map_err(|unfilled| EncodeError::of(unfilled, EncodeError::Uri))?;
-        Ok(Uri { payload: Bytes::Borrowed(&buffer[..count]), length: uri.len(), profile: Profile::Strict })
+        Ok(Uri::known(Bytes::Borrowed(&buffer[..count])))
     }
 
     /// How many bytes the URI has: the size of the buffer that [`uri_in`](Self::uri_in) needs.
     #[must_use]
     pub fn uri_len(&self) -> usize {
-        self.length
+        let (prefix, rest) = self.parts();
+        prefix.len() + rest.len()
     }
 
     /// The URI.
     #[cfg(feature = "alloc")]
     #[must_use]
     pub fn to_uri(&self) -> String {
-        calls::uri_string(&self.payload, self.profile.flags())
+        let (prefix, rest) = self.parts();
+        [prefix, rest].concat()
     }
 
     /// The URI, in the buffer.
@@ -78,20 +81,25 @@ impl<'a> Uri<'a> {
     ///
     /// [`DecodeError::BufferTooSmall`] alone.
     pub fn uri_in<'r>(&self, buffer: &'r mut [u8]) -> Result<&'r str, DecodeError> {
-        calls::uri_in(&self.payload, self.profile.flags(), buffer).map_err(DecodeError::of)
+        let (prefix, rest) = self.parts();
+        let length = prefix.len() + rest.len();
+        let uri = buffer.get_mut(..length).ok_or(DecodeError::BufferTooSmall(length))?;
+        uri[..prefix.len()].copy_from_slice(prefix.as_bytes());
+        uri[prefix.len()..].copy_from_slice(rest.as_bytes());
+        Ok(calls::utf8(uri))
     }
 
     /// Its payload.
     #[must_use]
     pub fn payload(&self) -> &[u8] {
-        &self.payload
+        &self.0
     }
 
     /// The same URI, which borrows nothing.
     #[cfg(feature = "alloc")]
     #[must_use]
     pub fn into_owned(self) -> Uri<'static> {
-        Uri { payload: self.payload.into_owned(), length: self.length, profile: self.profile }
+        Uri(self.0.into_owned())
     }
 
     #[cfg(feature = "alloc")]
@@ -105,7 +113,7 @@ compare_by_value! { Uri }
 
 impl<'a> From<Uri<'a>> for NewRecord<'a> {
     fn from(uri: Uri<'a>) -> Self {
-        NewRecord::new(Tnf::WellKnown, b"U", uri.payload)
+        NewRecord::new(Tnf::WellKnown, b"U", uri.0)
     }
 }
 
@@ -118,6 +126,6 @@ impl fmt::Display for Uri<'_> {
 
 impl fmt::Debug for Uri<'_> {
     fn fmt(&self, to: &mut fmt::Formatter<'_>) -> fmt::Result {
-        to.debug_struct("Uri").field("payload", &Quoted(&self.payload)).finish()
+        to.debug_struct("Uri").field("payload", &Quoted(&self.0)).finish()
     }
 }

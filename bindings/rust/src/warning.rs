@@ -1,5 +1,5 @@
 //! What is strange in messages that are accepted, in sentences.
-use crate::calls;
+use crate::proved::ndef_diagnostics::{field_remark, payload_remark, repeated_remark, small_message};
 use crate::why::said;
 use crate::FieldName;
 use alloc::string::String;
@@ -16,7 +16,7 @@ use alloc::string::String;
 #[inline]
 #[must_use]
 pub fn field_warning(name: FieldName, bytes: &[u8]) -> Option<String> {
-    said(|buffer| calls::field_warning(name as u32, bytes, buffer))
+    Some(said(&field_remark(name.proved()?, bytes)?.sentence()))
 }
 
 /// What is strange in the record with an index, counted from 0, of the message with which the bytes begin, beside its other
@@ -34,5 +34,8 @@ pub fn field_warning(name: FieldName, bytes: &[u8]) -> Option<String> {
 #[inline]
 #[must_use]
 pub fn record_warning(bytes: &[u8], index: usize) -> Option<String> {
-    said(|buffer| calls::record_warning(bytes, index, buffer))
+    let message = small_message(bytes)?;
+    let record = message.items().nth(index)?;
+    let remark = payload_remark(&message, &record).or_else(|| repeated_remark(&message, &record))?;
+    Some(said(&remark.sentence()))
 }

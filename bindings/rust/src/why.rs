@@ -1,8 +1,8 @@
 //! Why bytes are refused, and what may help, in sentences.
-use crate::calls::{self, Unfilled};
-use crate::{promised, Limits, Payloads};
+use crate::hint::{hint_of, refusal_of};
+use crate::proved::ndef_diagnostics::{expected_at, Sentence};
+use crate::{promised, Limits};
 use alloc::string::String;
-use alloc::vec::Vec;
 
 /// What was wanted where the bytes are refused, in a sentence of English, or what the reason means where nothing more is
 /// known. `None`: they begin with a message. Payloads are validated, whatever the limits say.
@@ -17,7 +17,7 @@ use alloc::vec::Vec;
 #[inline]
 #[must_use]
 pub fn why(bytes: &[u8], limits: &Limits) -> Option<String> {
-    said(|buffer| calls::why(bytes, &limits.with_payloads(Payloads::Typed).raw(), buffer))
+    refusal_of(bytes, limits).map(|refusal| said(&expected_at(bytes, refusal).sentence(refusal.reason)))
 }
 
 /// A sentence that may help where the bytes are refused: they are of a tag, which has these for a message, or a text that
@@ -34,12 +34,10 @@ pub fn why(bytes: &[u8], limits: &Limits) -> Option<String> {
 #[inline]
 #[must_use]
 pub fn hint(bytes: &[u8], limits: &Limits) -> Option<String> {
-    said(|buffer| calls::hint(bytes, &limits.with_payloads(Payloads::Typed).raw(), buffer))
+    hint_of(bytes, limits).map(|hint| said(&hint.sentence()))
 }
 
-/// The sentence that a call writes, if it writes one.
-pub(crate) fn said(call: impl FnOnce(&mut Vec<u8>) -> Result<usize, Unfilled>) -> Option<String> {
-    let mut written = Vec::with_capacity(192);
-    call(&mut written).ok()?;
-    Some(promised(String::from_utf8(written)))
+/// A sentence as a string.
+pub(crate) fn said(sentence: &Sentence) -> String {
+    promised(core::str::from_utf8(sentence.as_slice())).into()
 }

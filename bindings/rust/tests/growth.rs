@@ -21,8 +21,8 @@ fn many() -> Limits {
 /// The microseconds that this thread has had of the processor; where the system doesn't say so, those that have passed.
 fn now() -> f64 {
     static START: OnceLock<Instant> = OnceLock::new();
-    let told = fs::read_to_string("/proc/thread-self/schedstat").ok();
-    let taken = told.and_then(|text| text.split(' ').next()?.parse::<f64>().ok());
+    let schedstat = fs::read_to_string("/proc/thread-self/schedstat").ok();
+    let taken = schedstat.and_then(|text| text.split(' ').next()?.parse::<f64>().ok());
     taken.map_or_else(|| START.get_or_init(Instant::now).elapsed().as_secs_f64() * 1e6, |nanoseconds| nanoseconds / 1e3)
 }
 
@@ -42,15 +42,15 @@ fn time_of(walk: &mut dyn FnMut()) -> f64 {
 
 /// Prints the times of a walk over what is made for each count, and stops where the growth is steep.
 fn row<T>(name: &str, is_linear: bool, make: impl Fn(usize) -> T, walk: impl Fn(&T)) {
-    let mut told: Vec<f64> = Vec::new();
+    let mut times: Vec<f64> = Vec::new();
     for count in [100, 1000, 10000] {
         let made = make(count);
-        told.push(time_of(&mut || walk(&made)));
-        if let [.., before, now] = told[..] {
-            assert!(!is_linear || now < 35.0 * before + 300.0, "{name}: {told:?}");
+        times.push(time_of(&mut || walk(&made)));
+        if let [.., before, now] = times[..] {
+            assert!(!is_linear || now < 35.0 * before + 300.0, "{name}: {times:?}");
         }
     }
-    println!("Rust | {name} | {:.1} | {:.1} | {:.1}", told[0], told[1], told[2]);
+    println!("Rust | {name} | {:.1} | {:.1} | {:.1}", times[0], times[1], times[2]);
 }
 
 fn texts(count: usize) -> Vec<u8> {

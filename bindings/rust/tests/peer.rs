@@ -76,7 +76,7 @@ fn plain_record(record: Record<'_>) -> by_hand::Record {
 }
 
 /// Compares what both tell of a message.
-fn is_told(message: Message<'_>, records: &[by_hand::Record], rules: Rules) {
+fn agrees(message: Message<'_>, records: &[by_hand::Record], rules: Rules) {
     // A payload is decoded without limits.
     let rules = Rules { records: 65535, ..rules };
     assert_eq!(message.records().map(plain_record).collect::<Vec<_>>(), records);
@@ -113,7 +113,7 @@ fn inputs_are_read_as_by_a_peer() {
                     (length, &bytes[length..]),
                     "{rules:?} {bytes:02x?}"
                 );
-                is_told(message, &records, rules);
+                agrees(message, &records, rules);
             }
             (Err(refusal), None) => {
                 refused += 1;

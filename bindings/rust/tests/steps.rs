@@ -59,8 +59,8 @@ fn in_parts(record: &NewRecord<'_>, position: Position, form: Form, dice: &mut D
 #[test]
 fn random_messages_are_those_that_are_built_at_once() {
     let dice = &mut Dice(0x9E3779B97F4A7C15);
-    let told = std::env::var("NDEF_RANDOM_MESSAGES").ok();
-    for _ in 0..told.map_or(100_000, |told| told.parse().unwrap()) {
+    let count = std::env::var("NDEF_RANDOM_MESSAGES").ok();
+    for _ in 0..count.map_or(100_000, |count| count.parse().unwrap()) {
         let records: Vec<NewRecord<'_>> = (0..1 + dice.below(4)).map(|_| record(dice)).collect();
         let form = form(dice);
         let mut buffer = vec![0; 20_000];

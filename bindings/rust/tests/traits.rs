@@ -24,11 +24,11 @@ type RecordWriter = simbegyor_ndef::RecordWriter<'static, Vec<u8>>;
 /// Each public type, by what it may do.
 #[test]
 fn each_type_may_go_to_another_thread() {
-    let told = have! {
+    let implementing = have! {
         Action AlternativeCarrier Alternatives Auxiliaries Bytes Checked Checker Chunks DecodeError EncodeError Encoding
         Field FieldName FieldPart Fields Form FoundHint HandoverCarrier HandoverError HandoverRequest HandoverRequestBuilder
-        HandoverSelect HandoverSelectBuilder HintKind Icon Icons Limits Link Links Message MessageBuilder MessageEncoder NewRecord NumberError Part
-        Payload PayloadKind Payloads Position PowerState Profile ReadError Reason Record RecordWriter Records Refusal SmartPoster
+        HandoverSelect HandoverSelectBuilder HintKind Icon Icons Limits Link Links Message MessageBuilder MessageEncoder NewRecord NumberError OwnedMessage
+        Part Payload PayloadKind Payloads Position PowerState Profile ReadError Reason Record RecordWriter Records Refusal SmartPoster
         SmartPosterBuilder Text Titles Tnf Uri: Send + Sync + Unpin + Debug
     };
     let exported = include_str!("../src/lib.rs").lines().filter_map(|line| line.strip_prefix("pub use "));
@@ -36,16 +36,16 @@ fn each_type_may_go_to_another_thread() {
     let words = exported.flat_map(|line| line.split(|letter: char| !letter.is_ascii_alphanumeric() && letter != '_'));
     let types = words.filter(|word| word.starts_with(|letter: char| letter.is_ascii_uppercase()));
     // It is exported as FieldPart.
-    let told = told.into_iter().filter(|name| *name != "FieldPart").collect::<BTreeSet<_>>();
-    assert_eq!(types.filter(|name| *name != "FieldPart").collect::<BTreeSet<_>>(), told);
+    let implementing = implementing.into_iter().filter(|name| *name != "FieldPart").collect::<BTreeSet<_>>();
+    assert_eq!(types.filter(|name| *name != "FieldPart").collect::<BTreeSet<_>>(), implementing);
 }
 
 #[test]
 fn values_are_copied_compared_and_hashed() {
     have! {
         Action AlternativeCarrier Bytes Checked DecodeError EncodeError Encoding Field FieldName FieldPart Form FoundHint
-        HandoverCarrier HandoverError HandoverRequest HandoverSelect HintKind Icon Limits Link Message NewRecord NumberError Part
-        Payload PayloadKind Payloads Position PowerState Profile Reason Record Refusal SmartPoster Text Tnf
+        HandoverCarrier HandoverError HandoverRequest HandoverSelect HintKind Icon Limits Link Message NewRecord NumberError OwnedMessage
+        Part Payload PayloadKind Payloads Position PowerState Profile Reason Record Refusal SmartPoster Text Tnf
         Uri: Clone + Eq + Hash + UnwindSafe + RefUnwindSafe
     };
     have! {
@@ -55,6 +55,7 @@ fn values_are_copied_compared_and_hashed() {
     have! { Checker HandoverRequestBuilder HandoverSelectBuilder MessageBuilder MessageEncoder SmartPosterBuilder: Clone };
     have! { Encoding FieldPart Form Limits MessageBuilder Part Payloads Profile Bytes: Default };
     have! { DecodeError EncodeError NumberError ReadError Reason Refusal: Error + 'static };
+    have! { DecodeError EncodeError NumberError ReadError Reason Refusal: Into<std::io::Error> };
     have! { FieldName FoundHint PowerState Reason Refusal Text Tnf Uri: Display };
     have! { Alternatives Auxiliaries Chunks Fields Icons Links Records Titles: FusedIterator + Clone };
 }
@@ -148,12 +149,12 @@ fn payloads_of_records_are_debugged() {
     let poster = Message::parse(b"\xD1\x02\x06Sp\xD1\x01\x02U\x00a").unwrap();
     let select = b"\x91\x02\x0AHs\x12\xD1\x02\x04ac\x01\x010\x00\x5A\x03\x01\x01a/b0x";
     let select = Message::parse(select).unwrap();
-    let told = format!("{:?}", poster.records().next().unwrap().decode().unwrap());
-    assert!(told.starts_with("SmartPoster(SmartPoster { uri: Uri {") && told.contains("records: [Record"), "{told}");
-    let told = format!("{:?}", select.records().next().unwrap().decode().unwrap());
+    let text = format!("{:?}", poster.records().next().unwrap().decode().unwrap());
+    assert!(text.starts_with("SmartPoster(SmartPoster { uri: Uri {") && text.contains("records: [Record"), "{text}");
+    let text = format!("{:?}", select.records().next().unwrap().decode().unwrap());
     assert!(
-        told.starts_with("HandoverSelect(HandoverSelect { version: (1, 2)") && told.contains("records: [Record"),
-        "{told}"
+        text.starts_with("HandoverSelect(HandoverSelect { version: (1, 2)") && text.contains("records: [Record"),
+        "{text}"
     );
     let links = select.links().unwrap();
     assert_eq!(format!("{links:?}").matches("Link {").count(), links.count());
@@ -177,4 +178,33 @@ fn errors_have_their_sources() {
     assert!(matches!(refused, ReadError::Refused(_)) && refused.source().is_none());
     let reading = ReadError::from(std::io::Error::other("gone"));
     assert!(matches!(reading, ReadError::Io(_)) && reading.to_string() == "gone");
+}
+
+/// `?` in a function of `io::Result`.
+#[test]
+fn errors_become_those_of_io() {
+    fn read(bytes: &[u8]) -> std::io::Result<usize> {
+        let message = Message::parse(bytes)?;
+        let record = message.records().next().unwrap();
+        Ok(record.decode_in(&mut [0; 2]).map(|_| message.record_count())?)
+    }
+    let error = read(b"\xD7\0\0").unwrap_err();
+    assert_eq!((error.kind(), error.downcast::<Refusal>().unwrap().at), (std::io::ErrorKind::InvalidData, 0));
+    let chunked = b"\xB2\x03\x01a/bx\x56\0\x02yz";
+    let error = read(chunked).unwrap_err();
+    assert_eq!(error.downcast::<DecodeError>().unwrap(), DecodeError::BufferTooSmall(3));
+    let error = std::io::Error::from(ReadError::Io(std::io::ErrorKind::BrokenPipe.into()));
+    assert_eq!(error.kind(), std::io::ErrorKind::BrokenPipe);
+}
+
+#[test]
+fn an_owned_message_is_its_message() {
+    let bytes = b"\xD0\0\0 and more".to_vec();
+    let message = OwnedMessage::parse(bytes.clone(), &Limits::new().with_profile(Profile::Standard)).unwrap();
+    let view = message.view();
+    assert_eq!((view.as_bytes(), view.rest(), view.record_count()), (&bytes[..3], &bytes[3..], 1));
+    assert_eq!((view.profile(), message.clone() == message), (Profile::Standard, true));
+    assert_eq!(message, OwnedMessage::parse(b"\xD0\0\0".to_vec(), &Limits::new()).unwrap());
+    assert_eq!(message.into_bytes(), bytes);
+    assert!(OwnedMessage::parse(b"\xD1\x01\0".to_vec(), &Limits::new()).is_err());
 }

@@ -15,4 +15,5 @@ pub(crate) mod ndef_nest;
 pub(crate) mod ndef_piece;
 pub(crate) mod ndef_types;
 pub(crate) mod ndef_value;
+#[path = "../shim.rs"]
 pub(crate) mod shim;

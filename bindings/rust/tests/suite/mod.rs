@@ -1,7 +1,6 @@
 //! The conformance cases of the repository, and random numbers.
 #![allow(dead_code)]
 
-use simbegyor_ndef::Profile;
 use std::fs;
 use std::path::Path;
 
@@ -21,16 +20,6 @@ pub fn cases(path: &str) -> Vec<String> {
 pub fn columns<const N: usize>(line: &str) -> [&str; N] {
     let mut columns = line.split('|').map(str::trim);
     std::array::from_fn(|_| columns.next().unwrap_or(""))
-}
-
-/// Whether the column of profiles names this one, alone or with the other.
-pub fn is_in(column: &str, profile: Profile) -> bool {
-    match column {
-        "strict" => profile == Profile::Strict,
-        "standard" => profile == Profile::Standard,
-        "both" => true,
-        other => panic!("there is no profile {other}"),
-    }
 }
 
 /// The bytes of hexadecimal digits, `-` for none.

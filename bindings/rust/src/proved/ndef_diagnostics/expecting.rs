@@ -7,7 +7,7 @@ use crate::proved::ndef_diagnostics::begun::{
 };
 use crate::proved::ndef_diagnostics::length_mismatch::{length_mismatch, of_least};
 use crate::proved::ndef_diagnostics::poster_heads::of_uri;
-use crate::proved::ndef_diagnostics::Expected;
+use crate::proved::ndef_diagnostics::{Expected, Whose};
 use crate::proved::ndef_fields::{piece_front, whole_pieces, FieldName};
 use crate::proved::ndef_format::header::{is_set, width, CHUNK, END, ID_THERE};
 use crate::proved::ndef_format::{Reason, Refusal, Table};
@@ -104,49 +104,37 @@ fn is_collision(table: Table, number: u64) -> bool {
     matches!(table, Table::Request) && number == 1
 }
 
-/// Returns the expectation at the end of a record: a last one ends with the payload, another leaves space for a record.
-fn of_end(last: bool, size: u64, left: u64) -> Expected {
+/// Returns the expectation at the end of a record, which may be a collision record: a last one ends with the payload,
+/// another leaves space for a record.
+fn of_end(collision: bool, last: bool, size: u64, left: u64) -> Expected {
     if last {
-        return if size == left { Expected::Nothing } else { Expected::LongerLast(size, left) };
-    }
-    let room = left.saturating_sub(size);
-    if room < 3 {
-        Expected::RoomForNext(room)
-    } else {
-        Expected::Nothing
-    }
-}
-
-/// A record of at least this size, which is known to be its size or not.
-fn of_size(known: bool, last: bool, size: u64, left: u64) -> Expected {
-    if left < size {
-        Expected::ShorterRecord(size, left)
-    } else if known {
-        of_end(last, size, left)
-    } else {
-        Expected::Nothing
-    }
-}
-
-/// A collision record that is the last ends with the payload, and any other leaves octets for another record.
-fn of_collision_end(last: bool, size: u64, left: u64) -> Expected {
-    if last {
-        return if size == left { Expected::Nothing } else { Expected::LastCollision(size, left) };
+        return if size == left {
+            Expected::Nothing
+        } else if collision {
+            Expected::Size(Whose::LastCollision, size, left)
+        } else {
+            Expected::Size(Whose::LastRecord, size, left)
+        };
     }
     let rest = left.saturating_sub(size);
-    if rest < 3 {
-        Expected::AfterCollision(rest)
-    } else {
+    if rest >= 3 {
         Expected::Nothing
+    } else if collision {
+        Expected::Size(Whose::AfterCollision, 3, rest)
+    } else {
+        Expected::Size(Whose::NextRecord, 3, rest)
     }
 }
 
-/// A collision record of at least this size, which is known to be its size or not.
-fn of_collision_size(known: bool, last: bool, size: u64, left: u64) -> Expected {
+/// A record, which may be a collision record, of at least this size, which is known to be its size or not.
+fn of_size(collision: bool, known: bool, last: bool, size: u64, left: u64) -> Expected {
     if left < size {
-        Expected::ShorterCollision(size, left)
+        let whose = if collision { Whose::Collision } else { Whose::Record };
+        Expected::Size(whose, size, left)
     } else if known {
-        of_collision_end(last, size, left)
+        of_end(collision, last, size, left)
+    } else if !last && left - size < 3 {
+        Expected::Size(Whose::AfterShortest, 3, left - size)
     } else {
         Expected::Nothing
     }
@@ -161,14 +149,14 @@ fn of_collision(left: u64, octets: &[u8]) -> Expected {
     let header = octet_at(octets, 0);
     let size = head_length(octets) + 4 + usize::from(id_length(octets));
     let known = !is_set(ID_THERE, header) || is_lengths_whole(octets);
-    of_collision_size(known, is_set(END, header), size as u64, left)
+    of_size(true, known, is_set(END, header), size as u64, left)
 }
 
 /// Returns the expectation after these octets of a head.
 fn of_head(left: u64, octets: &[u8]) -> Expected {
     let last = is_set(END, octet_at(octets, 0));
     let least = least_record(octets) + kind_to_come(octets);
-    of_size(is_size_known(octets), last, least, left)
+    of_size(false, is_size_known(octets), last, least, left)
 }
 
 /// The same in this nested message: a URI has to come in a poster, where nothing else is wanted.

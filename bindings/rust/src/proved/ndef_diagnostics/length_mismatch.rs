@@ -1,7 +1,7 @@
 // Written by ports/erase of crates/ndef_diagnostics/src/length_mismatch.rt, which has the contracts: do not edit.
 //! The expectation for a payload that doesn't fit its length, from the layout of its kind.
 
-use crate::proved::ndef_diagnostics::Expected;
+use crate::proved::ndef_diagnostics::{Expected, Whose};
 use crate::proved::ndef_fields::FieldName;
 use crate::proved::ndef_lang::{Kind, Leaf, Lengths, Stage};
 use crate::proved::ndef_value::Profile;
@@ -39,7 +39,7 @@ fn of_stage(stage: Stage, left: u64) -> Expected {
     match stage {
         Stage::Utf16 if left % 2 == 1 => Expected::EvenText,
         Stage::AuxiliaryCount if left == 0 => Expected::AuxiliaryCount,
-        Stage::References(count) if left < u64::from(count) => Expected::FewerAuxiliary(u64::from(count), left),
+        Stage::References(count) if left < u64::from(count) => Expected::Size(Whose::Auxiliary, u64::from(count), left),
         _ => Expected::Nothing,
     }
 }
@@ -51,7 +51,7 @@ fn of_field(name: FieldName, leaf: Leaf, left: u64) -> Expected {
     };
     let size = u64::from(size);
     if left < size {
-        Expected::ShorterField(name, size, left)
+        Expected::Size(Whose::Field(name), size, left)
     } else {
         of_stage(next, left - size)
     }

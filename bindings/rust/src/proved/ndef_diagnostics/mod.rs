@@ -14,7 +14,7 @@
 //!   `crates/ndef_diagnostics/specs/TextRemarks.antt`: about a text. `record_remark.rs`, `poster_remark.rs`, `handover_remark.rs`,
 //!   `crates/ndef_diagnostics/specs/RecordRemarks.antt`: about a record beside the others. `few.rs`: the messages that are searched for them.
 //! - `wording.rs`, `crates/ndef_diagnostics/specs/Wordings.antt`: the sentence for each. `sentence.rs`: a short text, made with no memory.
-//! - `crates/ndef_diagnostics/src/laws.rt`, `crates/ndef_diagnostics/specs/Truths.antt`: the law that the sentences' statements about lengths are true.
+//! - `crates/ndef_diagnostics/src/laws.rt`, `crates/ndef_diagnostics/specs/Truths.antt`: the laws that sentences are true.
 
 mod begun;
 mod dump_text;
@@ -36,7 +36,7 @@ mod wording;
 
 pub use begun::{is_lengths_whole, least_record};
 pub use dump_text::DumpText;
-pub use expected::Expected;
+pub use expected::{Expected, Whose};
 pub use expecting::expected_at;
 pub use few::small_message;
 pub use hint::{hint_at, Hint};

@@ -4,9 +4,8 @@
 use crate::proved::ndef_diagnostics::begun::{
     head_length, id_length, is_length_whole, is_size_known, least_record, octet_at, payload_length,
 };
-use crate::proved::ndef_diagnostics::Expected;
+use crate::proved::ndef_diagnostics::{Expected, Whose};
 use crate::proved::ndef_format::header::{is_set, tnf_number, END};
-use crate::proved::ndef_lang::Kind;
 
 /// Whether PAYLOAD_LENGTH has come, and is 0.
 fn has_no_payload(octets: &[u8]) -> bool {
@@ -24,11 +23,6 @@ fn least_uri(octets: &[u8]) -> u64 {
     front as u64 + payload_length(octets).max(1)
 }
 
-/// Whether a record that begins with these octets, with the longest id, is no shorter than what is left.
-fn reaches_end(left: u64, octets: &[u8]) -> bool {
-    left <= (head_length(octets) + usize::from(octet_at(octets, 1)) + 255) as u64
-}
-
 /// Whether no octet of PAYLOAD_LENGTH has come, or all have.
 fn is_uncut(octets: &[u8]) -> bool {
     octets.len() <= 2 || is_length_whole(octets)
@@ -36,12 +30,12 @@ fn is_uncut(octets: &[u8]) -> bool {
 
 /// The last record of a poster has to be its URI.
 fn of_last_uri(left: u64, octets: &[u8]) -> Expected {
-    if has_no_payload(octets) && reaches_end(left, octets) {
-        return Expected::LeastLength(Kind::Uri, 1, 0);
+    if has_no_payload(octets) {
+        return Expected::EmptyUri;
     }
     let least = least_uri(octets);
     if left < least && is_uncut(octets) {
-        Expected::ShorterUri(least, left)
+        Expected::Size(Whose::LastUri, least, left)
     } else {
         Expected::Nothing
     }
@@ -51,7 +45,7 @@ fn of_last_uri(left: u64, octets: &[u8]) -> Expected {
 fn of_rest(left: u64, size: u64) -> Expected {
     let rest = left.saturating_sub(size);
     if rest < 5 {
-        Expected::UriToFollow(rest)
+        Expected::Size(Whose::NextUri, 5, rest)
     } else {
         Expected::Nothing
     }

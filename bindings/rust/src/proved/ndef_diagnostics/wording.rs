@@ -1,13 +1,10 @@
 // Written by ports/erase of crates/ndef_diagnostics/src/wording.rt, which has the contracts: do not edit.
 //! The sentence for the expectation.
 
-use crate::proved::ndef_diagnostics::{Expected, Sentence};
+use crate::proved::ndef_diagnostics::{Expected, Sentence, Whose};
 use crate::proved::ndef_fields::FieldName;
 use crate::proved::ndef_format::Reason;
 use crate::proved::ndef_lang::Kind;
-
-/// The beginning of a sentence about the first record of a request.
-const COLLISION_FIRST: &[u8] = b"A request begins with a collision record (`cr`)";
 
 /// The word for one, or for more or none.
 fn word(count: u64, one: &'static [u8], more: &'static [u8]) -> &'static [u8] {
@@ -68,7 +65,8 @@ impl Sentence {
     /// Appends the number of octets left in the payload.
     fn push_left(&mut self, count: u64) {
         self.push_number(count);
-        self.push(word(count, b" is left in the payload.", b" are left in the payload."));
+        self.push(word(count, b" is left", b" are left"));
+        self.push(b" in the payload.");
     }
 
     /// Appends a kind, as the subject.
@@ -132,54 +130,53 @@ fn of_error(reason: u8, there: u64, given: u64) -> Sentence {
     sentence
 }
 
-/// The sentence for a field that is longer than what is left.
-fn of_field(name: FieldName, size: u64, left: u64) -> Sentence {
-    let mut sentence = Sentence::new();
-    sentence.push(b"The ");
+/// A field of a payload, as the subject of a sentence about its size.
+fn of_field(name: FieldName) -> Sentence {
+    let mut sentence = Sentence::of(b"The ");
     sentence.push(name.text());
     sentence.push(b" has ");
-    sentence.push_octets(size);
-    sentence.push(b"; ");
-    sentence.push_left(left);
     sentence
 }
 
-/// The sentence for auxiliary references that don't fit.
-fn of_auxiliary(count: u64, left: u64) -> Sentence {
+/// Auxiliary references that are to come, as the subject of a sentence about their size.
+fn of_auxiliary(count: u64) -> Sentence {
     let mut sentence = Sentence::new();
     sentence.push_number(count);
-    sentence.push(word(count, b" auxiliary reference has", b" auxiliary references have"));
-    sentence.push(b" at least ");
-    sentence.push_octets(count);
-    sentence.push(b"; ");
-    sentence.push_left(left);
+    sentence.push(b" auxiliary reference");
+    sentence.push(word(count, b" has", b"s have"));
+    sentence.push(b" to follow, of at least ");
     sentence
 }
 
-/// The sentence for a record that doesn't fit.
-fn of_record(least: u64, left: u64) -> Sentence {
-    let mut sentence = Sentence::new();
-    sentence.push(b"This record has at least ");
-    sentence.push_octets(least);
-    sentence.push(b"; ");
-    sentence.push_left(left);
-    sentence
+/// What has a size, as the subject of a sentence about it.
+fn subject_of(whose: Whose, size: u64) -> Sentence {
+    match whose {
+        Whose::Field(name) => of_field(name),
+        Whose::Auxiliary => of_auxiliary(size),
+        Whose::Record => Sentence::of(b"This record has at least "),
+        Whose::LastRecord => Sentence::of(b"This record is the last (ME) and has "),
+        Whose::NextRecord => Sentence::of(b"Another record has to follow (ME is clear), of at least "),
+        Whose::AfterShortest => {
+            Sentence::of(b"After this record at its shortest another has to follow (ME is clear), of at least ")
+        }
+        Whose::LastUri => Sentence::of(b"The last record (ME) of this poster has to be its URI (`U`), of at least "),
+        Whose::NextUri => {
+            Sentence::of(b"The URI (`U`) of this smart poster has to follow (ME is clear), in a record of at least ")
+        }
+        Whose::Collision => Sentence::of(b"A request begins with a collision record (`cr`), here of at least "),
+        Whose::LastCollision => {
+            Sentence::of(b"A request begins with a collision record (`cr`), which as the last (ME) has ")
+        }
+        Whose::AfterCollision => {
+            Sentence::of(b"After its collision record (`cr`) another record has to follow (ME is clear), of at least ")
+        }
+    }
 }
 
-/// The sentence for a last record that ends too early.
-fn of_last(size: u64, left: u64) -> Sentence {
-    let mut sentence = Sentence::new();
-    sentence.push(b"This record is the last (ME) and has ");
+/// The sentence for what has a size and doesn't fit.
+fn of_size(whose: Whose, size: u64, left: u64) -> Sentence {
+    let mut sentence = subject_of(whose, size);
     sentence.push_octets(size);
-    sentence.push(b"; ");
-    sentence.push_left(left);
-    sentence
-}
-
-/// The sentence for another record that doesn't fit.
-fn of_next(left: u64) -> Sentence {
-    let mut sentence = Sentence::new();
-    sentence.push(b"Another record has to follow (ME is clear), of at least 3 octets");
     sentence.push(b"; ");
     sentence.push_left(left);
     sentence
@@ -194,24 +191,6 @@ fn of_poster(number: u64) -> Sentence {
     sentence
 }
 
-/// The sentence for a last record of a poster that has to be its URI and doesn't fit.
-fn of_last_uri(least: u64, left: u64) -> Sentence {
-    let mut sentence = Sentence::of(b"The last record (ME) of this poster has to be its URI (`U`), of at least ");
-    sentence.push_octets(least);
-    sentence.push(b"; ");
-    sentence.push_left(left);
-    sentence
-}
-
-/// The sentence for the URI of a poster, which doesn't fit after a record.
-fn of_uri_to_follow(left: u64) -> Sentence {
-    let mut sentence = Sentence::of(
-        b"The URI (`U`) of this smart poster has to follow (ME is clear), in a record of at least 5 octets; ",
-    );
-    sentence.push_left(left);
-    sentence
-}
-
 /// The sentence for a second URI.
 fn of_second(number: u64) -> Sentence {
     let mut sentence = Sentence::new();
@@ -223,38 +202,8 @@ fn of_second(number: u64) -> Sentence {
 
 /// The sentence for a collision record of another length.
 fn of_collision(given: u64) -> Sentence {
-    let mut sentence = Sentence::of(COLLISION_FIRST);
-    sentence.push(b" of 2 octets; ");
+    let mut sentence = Sentence::of(b"A request begins with a collision record (`cr`) of 2 octets; ");
     sentence.push_given(given);
-    sentence
-}
-
-/// The sentence for a collision record that doesn't fit.
-fn of_long_collision(least: u64, left: u64) -> Sentence {
-    let mut sentence = Sentence::of(COLLISION_FIRST);
-    sentence.push(b", here of at least ");
-    sentence.push_octets(least);
-    sentence.push(b"; ");
-    sentence.push_left(left);
-    sentence
-}
-
-/// The sentence for a collision record that is the last and ends too early.
-fn of_last_collision(size: u64, left: u64) -> Sentence {
-    let mut sentence = Sentence::of(COLLISION_FIRST);
-    sentence.push(b", which as the last (ME) has ");
-    sentence.push_octets(size);
-    sentence.push(b"; ");
-    sentence.push_left(left);
-    sentence
-}
-
-/// The sentence for another record after the collision record, which doesn't fit.
-fn of_after_collision(left: u64) -> Sentence {
-    let mut sentence = Sentence::of(
-        b"After its collision record (`cr`) another record has to follow (ME is clear), of at least 3 octets; ",
-    );
-    sentence.push_left(left);
     sentence
 }
 
@@ -272,27 +221,21 @@ impl Expected {
             Expected::LeastLength(kind, least, given) => of_least(kind, least, given),
             Expected::SelectLength(given) => of_select(given),
             Expected::ErrorLength(error, there, given) => of_error(error, there, given),
-            Expected::ShorterField(name, size, left) => of_field(name, size, left),
             Expected::EvenText => Sentence::of(b"The text in UTF-16 has an odd number of octets."),
             Expected::WholeCharacter => Sentence::of(b"The payload ends within a character of the text."),
             Expected::AuxiliaryCount => {
                 Sentence::of(b"The alternative carrier ends before its number of auxiliary references.")
             }
-            Expected::FewerAuxiliary(count, left) => of_auxiliary(count, left),
-            Expected::ShorterRecord(least, left) => of_record(least, left),
-            Expected::LongerLast(size, left) => of_last(size, left),
-            Expected::RoomForNext(left) => of_next(left),
+            Expected::Size(whose, size, left) => of_size(whose, size, left),
             Expected::UriInPoster(number) => of_poster(number),
-            Expected::ShorterUri(least, left) => of_last_uri(least, left),
-            Expected::UriToFollow(left) => of_uri_to_follow(left),
+            Expected::EmptyUri => Sentence::of(
+                b"The last record (ME) of this poster has to be its URI (`U`), whose payload is never empty.",
+            ),
             Expected::OneUri(number) => of_second(number),
             Expected::CollisionFirst => {
                 Sentence::of(b"This request must begin with a collision record (`cr`); its first record is another.")
             }
             Expected::CollisionLength(given) => of_collision(given),
-            Expected::ShorterCollision(least, left) => of_long_collision(least, left),
-            Expected::LastCollision(size, left) => of_last_collision(size, left),
-            Expected::AfterCollision(left) => of_after_collision(left),
         }
     }
 }

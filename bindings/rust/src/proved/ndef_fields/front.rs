@@ -1,11 +1,8 @@
 // Written by ports/erase of crates/ndef_fields/src/front.rt, which has the contracts: do not edit.
 //! The fields of a piece of which all or a front has come.
 
-use crate::proved::ndef_fields::before::{following, front_of};
-use crate::proved::ndef_fields::heads::id_length_in;
-use crate::proved::ndef_fields::left::id_width;
 use crate::proved::ndef_fields::stage::first;
-use crate::proved::ndef_format::header::width;
+use crate::proved::ndef_format::header::{is_set, width, ID_THERE};
 
 /// The octets of the fields of a piece before its payload, as far as they have come (NDEF 1.0, record layout).
 #[derive(Clone, Copy, Debug)]
@@ -33,6 +30,34 @@ pub struct PieceFront<'a> {
     pub head: HeadOctets<'a>,
     /// The octets of the payload, and those after it.
     pub content: &'a [u8],
+}
+
+/// Returns the octets after the first `count`, none if there are fewer.
+fn following(octets: &[u8], count: usize) -> &[u8] {
+    octets.split_at(count.min(octets.len())).1
+}
+
+/// The first `count` octets, all where there are fewer.
+fn front_of(octets: &[u8], count: usize) -> &[u8] {
+    octets.split_at(count.min(octets.len())).0
+}
+
+/// The number of octets of ID_LENGTH: 1 with IL, else 0.
+fn id_width(header: u8) -> usize {
+    usize::from(is_set(ID_THERE, header))
+}
+
+/// ID_LENGTH after PAYLOAD_LENGTH; 0 where there is none.
+fn id_length_in(header: u8, tail: &[u8]) -> u8 {
+    if id_width(header) == 0 {
+        return 0;
+    }
+    let at = width(header);
+    if at < tail.len() {
+        tail[at]
+    } else {
+        0
+    }
 }
 
 /// The fields of the piece with which these octets begin, as far as they have come (NDEF 1.0, record layout).

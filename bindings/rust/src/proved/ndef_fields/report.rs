@@ -42,7 +42,7 @@ pub fn fields(bytes: &[u8], limits: Limits) -> Result<FieldReport<'_>, Refusal> 
 /// They follow one another without a gap from the first byte to the last. The last one ends with the bytes: octets of
 /// it may be missing. Messages within payloads, and payloads in several pieces, are treated as by [`fields`].
 pub fn fields_before(bytes: &[u8]) -> Fields<'_> {
-    Fields::of_front(bytes)
+    Fields::new(bytes)
 }
 
 /// The fields of the payload of a record of this kind, joined where it comes in several pieces (RTD Text 1.0, RTD

@@ -4,7 +4,7 @@
 use super::ascii::is_ascii;
 use super::language::Language;
 use super::lengths::Lengths;
-use super::member::{is_leaf_payload, is_utf16, is_utf8};
+use super::member::is_leaf_payload;
 use super::record_language::RecordLanguage;
 use super::utf16::Utf16State;
 use super::utf8::Utf8Lang;
@@ -109,16 +109,8 @@ impl Stage {
         }
     }
 
-    /// Whether it is clear at once that any octets pass from here on.
-    fn is_rest(self) -> bool {
-        match self {
-            Stage::Any => true,
-            Stage::References(count) => count == 0,
-            _ => false,
-        }
-    }
-
     /// Returns the state after its first octet.
+    #[inline(always)]
     fn after(self, byte: u8) -> Leaf {
         match self {
             Stage::End => Leaf::Refused(Reason::DoesNotFit),
@@ -180,6 +172,7 @@ impl Leaf {
     }
 
     /// Returns the state after an octet.
+    #[inline(always)]
     pub(crate) fn after(self, byte: u8) -> Leaf {
         match self {
             Leaf::Field { left, class, next } => {
@@ -198,6 +191,7 @@ impl Leaf {
     }
 
     /// The numbers of octets that complete a payload.
+    #[inline(always)]
     pub fn lengths(self) -> Lengths {
         match self {
             Leaf::Field { left, next, .. } => {
@@ -232,40 +226,22 @@ impl Leaf {
     }
 }
 
-impl Leaf {
-    /// Whether it is clear at once that the octets complete the payload.
-    pub fn is_completed_by(self, bytes: &[u8]) -> bool {
-        let mut state = self;
-        let mut rest = bytes;
-        loop {
-            let Leaf::Field { left, class, next } = state else {
-                return false;
-            };
-            let left = left as usize;
-            if rest.len() < left {
-                return false;
-            }
-            let (field, after) = rest.split_at(left);
-            if !class.has_all(field) {
-                return false;
-            }
-            if next.is_rest() {
-                return true;
-            }
-            match next {
-                Stage::End => return after.is_empty(),
-                Stage::Utf8 => return is_utf8(after),
-                Stage::Utf16 => return is_utf16(after),
-                _ => {}
-            }
-            let [octet, more @ ..] = after else {
-                return false;
-            };
-            state = next.after(*octet);
-            rest = more;
-        }
+/// Returns the state after the status octet and the language code of a text in UTF-8, where nothing can refuse them,
+/// and the number of these octets.
+#[inline(always)]
+fn after_code(bytes: &[u8]) -> Option<(Leaf, usize)> {
+    let [status, rest @ ..] = bytes else {
+        return None;
+    };
+    let length = usize::from(*status % 64);
+    if *status >= 64 || rest.len() < length || !is_ascii(&rest[..length]) {
+        return None;
     }
+    let text = Leaf::Field { left: 0, class: Class::Code, next: Stage::Utf8 };
+    Some((text, length + 1))
+}
 
+impl Leaf {
     /// Takes octets at the front at once, where nothing can refuse them; answers their number.
     fn take_front(&mut self, bytes: &[u8]) -> usize {
         match *self {
@@ -273,6 +249,13 @@ impl Leaf {
                 if left == 0 {
                     match next {
                         Stage::Any => bytes.len(),
+                        Stage::Status => {
+                            let Some((text, count)) = after_code(bytes) else {
+                                return 0;
+                            };
+                            *self = text;
+                            count
+                        }
                         _ => 0,
                     }
                 } else {
@@ -304,9 +287,23 @@ impl Leaf {
         }
     }
 
+    /// Takes an octet, and returns 1, if what is still to come, `lo` to `hi` octets before it, can complete the payload
+    /// then, else 0.
+    #[inline(always)]
+    fn take_octet(&mut self, bytes: &[u8], lo: u64, hi: u64) -> usize {
+        *self = self.after(bytes[0]);
+        if !self.lengths().meet(lo - 1, hi - 1) {
+            return 0;
+        }
+        1
+    }
+
     /// Takes octets while what is still to come, `lo` to `hi` octets before the first of them, can complete the
     /// payload; returns their number. Where that is fewer than all, it has taken one more.
     pub(crate) fn take(&mut self, bytes: &[u8], lo: u64, hi: u64) -> usize {
+        if bytes.len() == 1 {
+            return self.take_octet(bytes, lo, hi);
+        }
         let mut at = 0;
         while at < bytes.len() {
             at += self.take_front(&bytes[at..]);

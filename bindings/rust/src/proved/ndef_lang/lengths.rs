@@ -18,6 +18,7 @@ pub enum Lengths {
 
 impl Lengths {
     /// Whether one of them is `lo` to `hi`.
+    #[inline(always)]
     pub fn meet(self, lo: u64, hi: u64) -> bool {
         match self {
             Lengths::Never => false,

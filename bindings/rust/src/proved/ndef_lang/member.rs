@@ -2,7 +2,6 @@
 //! Whole payloads: whether they are in their set. Only a true answer is conclusive.
 
 use super::ascii::is_ascii;
-use super::leaf::Leaf;
 use super::utf8;
 use crate::proved::ndef_format::Kind;
 use crate::proved::ndef_value::Profile;
@@ -25,7 +24,7 @@ fn is_long_utf8(bytes: &[u8]) -> bool {
 
 /// Whether it is a UTF-8 text.
 #[inline(always)]
-pub(crate) fn is_utf8(bytes: &[u8]) -> bool {
+fn is_utf8(bytes: &[u8]) -> bool {
     are_short_ascii(bytes) || is_long_utf8(bytes)
 }
 
@@ -51,7 +50,7 @@ fn are_units(bytes: &[u8], little: bool) -> bool {
 }
 
 /// Whether it is a UTF-16 text.
-pub(crate) fn is_utf16(bytes: &[u8]) -> bool {
+fn is_utf16(bytes: &[u8]) -> bool {
     match bytes {
         [0xfe, 0xff, rest @ ..] => are_units(rest, false),
         [0xff, 0xfe, rest @ ..] => are_units(rest, true),
@@ -59,11 +58,12 @@ pub(crate) fn is_utf16(bytes: &[u8]) -> bool {
     }
 }
 
-/// Whether it is a language code of that length and a text. It isn't inlined, so that short ASCII is fast.
+/// Whether it is a language code of that length and a text. It isn't inlined, so that short ASCII is fast: the
+/// caller has tried that, and here it isn't tried again.
 #[inline(never)]
 fn is_coded_text(count: usize, wide: bool, bytes: &[u8]) -> bool {
     let (code, text) = bytes.split_at(count);
-    is_ascii(code) && if wide { is_utf16(text) } else { is_utf8(text) }
+    is_ascii(code) && if wide { is_utf16(text) } else { is_long_utf8(text) }
 }
 
 /// Whether it is the payload of a Text record.
@@ -92,15 +92,94 @@ fn is_uri(profile: Profile, payload: &[u8]) -> bool {
     (*code <= 0x23 || matches!(profile, Profile::Standard)) && is_utf8(rest)
 }
 
-/// Whether the payload is one of the kind; of a kind whose payloads are messages, any is. Texts and URIs are tested
-/// at once, all others by their layout.
+/// Whether the payload has that many octets.
+#[inline(always)]
+fn has_length(payload: &[u8], count: usize) -> bool {
+    if payload.len() != count {
+        return false;
+    }
+    true
+}
+
+/// Whether it is the payload of a handover error.
+#[inline(always)]
+fn is_error(payload: &[u8]) -> bool {
+    let [reason, data @ ..] = payload else {
+        return false;
+    };
+    match *reason {
+        1 | 3 => has_length(data, 1),
+        2 => has_length(data, 4),
+        _ => true,
+    }
+}
+
+/// Whether it is the payload of a handover carrier.
+#[inline(always)]
+fn is_carrier(payload: &[u8]) -> bool {
+    let [_, rest @ ..] = payload else {
+        return false;
+    };
+    let [length, more @ ..] = rest else {
+        return false;
+    };
+    if more.len() < usize::from(*length) {
+        return false;
+    }
+    true
+}
+
+/// Whether the octets begin with that many references, each after its length.
+#[inline(always)]
+fn are_references(count: u8, bytes: &[u8]) -> bool {
+    let mut left = count;
+    let mut rest = bytes;
+    while left > 0 {
+        let [octet, more @ ..] = rest else {
+            return false;
+        };
+        let length = usize::from(*octet);
+        if more.len() < length {
+            return false;
+        }
+        rest = &more[length..];
+        left -= 1;
+    }
+    true
+}
+
+/// Whether it is the payload of an alternative carrier.
+#[inline(never)]
+fn is_alternative(payload: &[u8]) -> bool {
+    let [_, rest @ ..] = payload else {
+        return false;
+    };
+    let [octet, more @ ..] = rest else {
+        return false;
+    };
+    let length = usize::from(*octet);
+    if more.len() < length {
+        return false;
+    }
+    let [count, references @ ..] = &more[length..] else {
+        return false;
+    };
+    are_references(*count, references)
+}
+
+/// Whether the payload is one of the kind; of a kind whose payloads are messages, any is.
 #[inline(always)]
 pub(crate) fn is_leaf_payload(kind: Kind, profile: Profile, payload: &[u8]) -> bool {
     match kind {
         Kind::Text => is_text(payload),
         Kind::Uri => is_uri(profile, payload),
         Kind::MediaType => is_utf8(payload),
+        Kind::Action => has_length(payload, 1),
+        Kind::Size => has_length(payload, 4),
+        Kind::Collision => has_length(payload, 2),
+        Kind::Alternative => is_alternative(payload),
+        Kind::Error => is_error(payload),
+        Kind::Carrier => is_carrier(payload),
         Kind::Other | Kind::SmartPoster | Kind::Request | Kind::Select => true,
-        _ => Leaf::of(kind, profile).is_completed_by(payload),
     }
 }

@@ -13,6 +13,8 @@
 //! - `only.rs`: a language for each type of payload, over the same layouts. `utf8.rs`, `utf16.rs`: texts.
 //! - `kind.rs`: reads the kind of a type. `type_name.rs`: keeps the name of one.
 //! - `member.rs`: whole payloads at once. `ascii.rs`: whether octets are ASCII.
+//! - `own_types.rs`: record types of a program's own. `opaque.rs`: payloads that aren't validated.
+//! - `lengths.rs`: the numbers of octets that complete a payload. `crates/ndef_lang/src/laws.rt`: properties of all the languages.
 //! - `place.rs`: the place at which a payload of known length is refused.
 //! - `crates/ndef_lang/specs/StepLaws.antt`: payloads by whole slices.
 

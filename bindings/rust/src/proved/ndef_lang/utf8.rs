@@ -137,6 +137,7 @@ impl Utf8Lang {
     }
 
     /// Takes octets one by one while what is still to come can complete a text, and one more.
+    #[inline(always)]
     fn take_each(&mut self, bytes: &[u8], lo: u64, hi: u64) -> usize {
         for (at, byte) in bytes.iter().enumerate() {
             *self = self.after(*byte);
@@ -164,6 +165,7 @@ impl Utf8Lang {
     }
 
     /// The numbers of octets that complete a text.
+    #[inline(always)]
     pub(crate) fn lengths(self) -> Lengths {
         match self {
             Utf8Lang::Whole => Lengths::From(0),

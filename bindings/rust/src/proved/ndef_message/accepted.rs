@@ -1,9 +1,11 @@
 // Written by ports/erase of crates/ndef_message/src/accepted.rt, which has the contracts: do not edit.
 //! Whole records at the front of a slice, or pieces of an open run, that a fast test finds right. Others may be right
 //! too.
-use crate::proved::ndef_format::header::{is_set, END};
+
+use crate::proved::ndef_format::header::{is_set, tnf_number, BEGIN, CHUNK, END};
 use crate::proved::ndef_lang::RecordLanguage;
 use crate::proved::ndef_message::phase::Place;
+use crate::proved::ndef_message::Checked;
 use crate::proved::ndef_piece::{whole_piece, WholePiece};
 use crate::proved::ndef_value::Limits;
 
@@ -74,8 +76,9 @@ pub(crate) fn whole_record<'a, L: RecordLanguage>(
 }
 
 /// The bytes of the message at the front of these, where it is a record in one piece that the fast test finds right.
-pub(crate) fn lone_record<L: RecordLanguage>(limits: &Limits, bytes: &[u8]) -> Option<usize> {
-    // Of a message with more records the checker reads the first piece, so it isn't read here.
+#[inline(always)]
+fn lone_record<L: RecordLanguage>(limits: &Limits, bytes: &[u8]) -> Option<usize> {
+    // Of a message with more records the first piece isn't read here.
     if !is_set(END, *bytes.first()?) {
         return None;
     }
@@ -86,8 +89,33 @@ pub(crate) fn lone_record<L: RecordLanguage>(limits: &Limits, bytes: &[u8]) -> O
     Some(bytes.len() - piece.rest.len())
 }
 
+/// Whether the first octet may be that of a message of one piece.
+#[inline(always)]
+fn begins_alone(bytes: &[u8]) -> bool {
+    match bytes.first() {
+        Some(octet) => {
+            is_set(BEGIN, *octet) && is_set(END, *octet) && !is_set(CHUNK, *octet) && tnf_number(*octet) <= 5
+        }
+        None => false,
+    }
+}
+
+/// The same. A short record with a well-known type of one octet, such as a text or a URI, gets code of its own: so much
+/// is known of it that this takes few instructions.
+#[inline(always)]
+pub(crate) fn lone_message<L: RecordLanguage>(limits: &Limits, bytes: &[u8]) -> Option<usize> {
+    if let [0xd1, 1, ..] = bytes {
+        return lone_record::<L>(limits, bytes);
+    }
+    if !begins_alone(bytes) {
+        return None;
+    }
+    lone_record::<L>(limits, bytes)
+}
+
 /// The bytes of the record at the front of these, in one piece or more, and whether it ends the message.
 /// In more pieces, any payload has to be one of its type.
+#[inline(always)]
 fn accepted_record<L: RecordLanguage>(limits: &Limits, place: &Place, bytes: &[u8]) -> Option<(usize, bool)> {
     let piece = whole_piece(bytes)?;
     let taken = bytes.len() - piece.rest.len();
@@ -107,6 +135,7 @@ fn accepted_record<L: RecordLanguage>(limits: &Limits, place: &Place, bytes: &[u
 
 /// Accepts as many whole records at the front of the bytes as the fast test finds right: returns the number of
 /// their bytes, the place after them, and whether the message ends there.
+#[inline(always)]
 pub(crate) fn accepted_records<L: RecordLanguage>(limits: &Limits, place: Place, bytes: &[u8]) -> (usize, Place, bool) {
     let mut at = 0;
     let mut found = place;
@@ -121,4 +150,29 @@ pub(crate) fn accepted_records<L: RecordLanguage>(limits: &Limits, place: Place,
         }
     }
     (at, found, false)
+}
+
+/// How far the fast test came: the number of bytes of the records that it found right, and the place after them.
+#[derive(Clone, Copy)]
+pub(crate) struct Passed {
+    pub(crate) taken: usize,
+    pub(crate) place: Place,
+}
+
+impl Passed {
+    /// It found none right.
+    #[inline(always)]
+    pub(crate) fn none(limits: &Limits) -> Passed {
+        Passed { taken: 0, place: Place::start(limits) }
+    }
+}
+
+/// The message at the front of the bytes, where the fast test finds each of its records right; else how far it came.
+#[inline(always)]
+pub(crate) fn accepted_message<L: RecordLanguage>(limits: &Limits, bytes: &[u8]) -> Result<Checked, Passed> {
+    let (taken, place, last) = accepted_records::<L>(limits, Place::start(limits), bytes);
+    if !last {
+        return Err(Passed { taken, place });
+    }
+    Ok(Checked { records: limits.records().saturating_sub(place.records), taken: taken as u64 })
 }

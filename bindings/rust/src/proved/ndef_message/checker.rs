@@ -2,6 +2,7 @@
 //! The checker of a message: whole records and pieces, and else bytes of one field, one after another.
 
 use crate::proved::ndef_lang::{RecordLanguage, TypeName};
+use crate::proved::ndef_message::accepted::Passed;
 use crate::proved::ndef_message::phase::{Phase, Place};
 use crate::proved::ndef_message::state::State;
 use crate::proved::ndef_message::Fed;
@@ -63,9 +64,35 @@ impl<L: RecordLanguage> Checker<L> {
         }
     }
 
+    /// Returns a checker after the records with which the input begins.
+    pub(crate) fn after_records(limits: Limits, input: &[u8], passed: Passed) -> Self {
+        let mut checker = Checker::<L>::start(limits);
+        if passed.taken == 0 {
+            return checker;
+        }
+        checker.state.advance_past(&limits, passed.place, false);
+        checker.taken = passed.taken as u64;
+        checker
+    }
+
     /// Takes bytes up to the last one of the message or the first that is refused.
     pub(crate) fn feed_bytes(&mut self, bytes: &[u8]) -> Fed {
+        if bytes.len() == 1 {
+            return self.feed_octet(bytes);
+        }
         self.feed_tried(bytes, false)
+    }
+
+    /// The same for one byte, with which no whole record or piece comes.
+    fn feed_octet(&mut self, bytes: &[u8]) -> Fed {
+        if let Some(answer) = self.answer(0) {
+            return answer;
+        }
+        let count = self.step(bytes);
+        match self.answer(count) {
+            Some(answer) => answer,
+            None => Fed::More,
+        }
     }
 
     /// The same. Where `tried` is set, the fast test has just failed on the record at the front of the bytes, and isn't

@@ -4,11 +4,7 @@
 use crate::proved::ndef_message::checked_bytes::first_piece;
 use crate::proved::ndef_message::Pieces;
 use crate::proved::ndef_piece::WholePiece;
-#[cfg(feature = "alloc")]
-use crate::proved::ndef_value::{Bytes, Name, Record};
-use crate::proved::ndef_value::{NoMemory, Tnf};
-#[cfg(feature = "alloc")]
-use crate::proved::shim::std::alloc::Global;
+use crate::proved::ndef_value::Tnf;
 
 /// A record of a viewed message (NDEF 1.0, record layout and chunked payloads): its type, its id and
 /// the payloads of its pieces are slices of the bytes that were viewed. Contracts see the run of its
@@ -76,29 +72,5 @@ impl<'a> Item<'a> {
         } else {
             Some(piece.payload)
         }
-    }
-
-    /// A copy of the payload, all pieces joined; or `NoMemory` where an allocation fails.
-    #[cfg(feature = "alloc")]
-    pub fn joined(&self, alloc: Global) -> Result<Bytes, NoMemory> {
-        let mut payload = Bytes::new(alloc);
-        for piece in self.pieces() {
-            payload.extend(piece)?;
-        }
-        Ok(payload)
-    }
-
-    /// A copy of the record; or `NoMemory` where an allocation fails.
-    #[cfg(feature = "alloc")]
-    pub(crate) fn to_record(&self, alloc: Global) -> Result<Record, NoMemory> {
-        let first = self.first();
-        let Ok(kind) = Name::from_slice(alloc, first.kind) else {
-            return Err(NoMemory);
-        };
-        let Ok(id) = Name::from_slice(alloc, first.id) else {
-            return Err(NoMemory);
-        };
-        let payload = self.joined(alloc)?;
-        Ok(Record::from_parts(first.tnf(), kind, id, payload))
     }
 }

@@ -2,13 +2,7 @@
 //! A message, where it lies.
 
 use crate::proved::ndef_message::Items;
-#[cfg(feature = "alloc")]
-use crate::proved::ndef_value::Message;
-use crate::proved::ndef_value::{NoMemory, Profile};
-#[cfg(feature = "alloc")]
-use crate::proved::shim::std::alloc::Global;
-#[cfg(feature = "alloc")]
-use crate::proved::shim::Vec;
+use crate::proved::ndef_value::Profile;
 
 /// A message (NDEF 1.0) at the front of a slice, of which nothing is copied: `view` makes one of bytes
 /// that it has checked. Contracts see the number of bytes of the message, the runs of its records, and the profile with
@@ -47,16 +41,5 @@ impl<'a> View<'a> {
     /// The records of the message, in order, 1 to 65535 of them. Each call starts from the first.
     pub fn items(&self) -> Items<'a> {
         Items::new(self.bytes)
-    }
-
-    /// A copy of the message; `NoMemory` where an allocation fails.
-    #[cfg(feature = "alloc")]
-    pub fn to_message(&self, alloc: Global) -> Result<Message, NoMemory> {
-        let mut records = Vec::new(alloc);
-        for item in self.items() {
-            records.push(item.to_record(alloc)?)?;
-        }
-        let Ok(message) = Message::new(records) else { unreachable!() };
-        Ok(message)
     }
 }

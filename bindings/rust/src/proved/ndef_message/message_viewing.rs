@@ -2,7 +2,7 @@
 //! Views a message, where it lies.
 
 use crate::proved::ndef_lang::RecordLanguage;
-use crate::proved::ndef_message::accepted::lone_record;
+use crate::proved::ndef_message::accepted::lone_message;
 use crate::proved::ndef_message::judging::judge;
 use crate::proved::ndef_message::View;
 use crate::proved::ndef_value::{Limits, Refusal};
@@ -14,10 +14,10 @@ use crate::proved::ndef_value::{Limits, Refusal};
 /// Bytes that begin with no such message are refused at the first byte after which no continuation is
 /// one, or where they end too early, with the reason.
 pub fn view<L: RecordLanguage>(bytes: &[u8], limits: Limits) -> Result<View<'_>, Refusal> {
-    if let Some(taken) = lone_record::<L>(&limits, bytes) {
+    if let Some(taken) = lone_message::<L>(&limits, bytes) {
         return Ok(View::new(&bytes[..taken], 1, limits.profile()));
     }
-    match judge::<L>(limits, bytes) {
+    match judge::<L>(&limits, bytes) {
         Ok(checked) => Ok(View::new(&bytes[..checked.taken as usize], checked.records, limits.profile())),
         Err(refusal) => Err(refusal),
     }

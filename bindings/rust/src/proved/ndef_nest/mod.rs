@@ -10,6 +10,7 @@
 //!   records to come.
 //! - `member.rs`: whole nested messages at once. `whole.rs`: whole records of one that is half read.
 //! - `typed.rs`: the payloads of all records of a message, by their kinds.
+//! - `context.rs`: the state that follows from the records before. `crates/ndef_nest/src/laws.rt`: properties of nested messages.
 //! - `specs/Machine/`: the states. `crates/ndef_nest/specs/Machine/Demands.antt` and `crates/ndef_nest/specs/Machine/Phases.antt` define the octets that complete a message from
 //!   any point on, `crates/ndef_nest/specs/Machine/SpanLaws.antt` and its neighbours their lengths.
 

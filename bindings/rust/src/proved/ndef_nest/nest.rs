@@ -79,6 +79,7 @@ impl Nest {
     }
 
     /// The same in a head.
+    #[inline(always)]
     fn head_span(&self) -> (u64, u64) {
         match self.reader.bounds() {
             Some(bounds) => self.bounded_span(&bounds),
@@ -146,6 +147,7 @@ impl Nest {
     }
 
     /// Takes an octet of a head. Returns the bounds of the head where it goes on.
+    #[inline(always)]
     fn at_head(&mut self, byte: u8) -> Option<Bounds> {
         match self.reader.step(byte) {
             Step::More => {
@@ -174,6 +176,7 @@ impl Nest {
     }
 
     /// Takes an octet. Returns the bounds of the head where that goes on.
+    #[inline(always)]
     fn stepped(&mut self, byte: u8) -> Option<Bounds> {
         match self.phase {
             NestPhase::Version => {

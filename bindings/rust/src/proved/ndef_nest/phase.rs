@@ -63,6 +63,7 @@ impl NestPhase {
 
     /// The least and the greatest number of octets that complete the message, once it has begun, where no octet of a
     /// head has come: none do where the second is less.
+    #[inline(always)]
     pub(crate) fn span(self, context: &Context) -> (u64, u64) {
         match self {
             NestPhase::Version | NestPhase::Start | NestPhase::Refused => (1, 0),

@@ -120,6 +120,7 @@ impl OpenRecord {
     }
 
     /// Within a head.
+    #[inline(always)]
     pub(crate) fn of_head(demand: Demand, bounds: &Bounds) -> Self {
         let missing = match (demand, bounds.tnf) {
             (Demand::OneUri, Tnf::WellKnown) => Some(1),
@@ -137,6 +138,7 @@ impl OpenRecord {
     }
 
     /// Within a type.
+    #[inline(always)]
     pub(crate) fn of_name(demand: Demand, name: Name) -> Self {
         let payload = u64::from(name.payload);
         let left = name.names.missing();

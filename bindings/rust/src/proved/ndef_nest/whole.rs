@@ -28,6 +28,7 @@ fn recorded(context: &Context, head: &Head, bytes: &[u8]) -> Option<(Demand, Nes
 }
 
 /// Whether some `lo` to `hi` octets complete the message after a head, with no octet of the next one.
+#[inline(always)]
 fn fits_after(context: &Context, demand: Demand, phase: NestPhase, lo: u64, hi: u64) -> bool {
     let next = Context { demand, ..*context };
     meets(phase.span(&next), lo, hi)

@@ -63,6 +63,7 @@ impl HeadReader {
 
     /// Returns the head at the front of the bytes, and its number of octets, if no octet has come yet and the bytes
     /// show at once that it is whole and may occur at the spot.
+    #[inline(always)]
     pub fn whole_head(&self, bytes: &[u8]) -> Option<(Head, usize)> {
         if self.count > 0 {
             return None;

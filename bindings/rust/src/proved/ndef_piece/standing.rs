@@ -6,6 +6,7 @@ use crate::proved::ndef_piece::Spot;
 use crate::proved::ndef_value::Profile;
 
 /// Whether a record in one piece may have this type name format and these lengths.
+#[inline(always)]
 fn has_shape(profile: Profile, tnf: u8, kind: usize, id: usize, payload: usize) -> bool {
     if 1 <= tnf && tnf <= 4 {
         return kind > 0;
@@ -19,6 +20,7 @@ fn has_shape(profile: Profile, tnf: u8, kind: usize, id: usize, payload: usize) 
 }
 
 /// Whether the flags may occur at the spot, and `payload` bytes fit in its payload budget.
+#[inline(always)]
 pub(crate) fn suits(spot: &Spot, header: u8, payload: usize) -> bool {
     let is_last = is_set(END, header);
     let followed = if is_set(CHUNK, header) { !is_last && !spot.last_piece } else { is_last || !spot.last_record };
@@ -26,6 +28,7 @@ pub(crate) fn suits(spot: &Spot, header: u8, payload: usize) -> bool {
 }
 
 /// Whether a piece with this header octet and these lengths may occur at the spot and begins a record there.
+#[inline(always)]
 pub(crate) fn opens(spot: &Spot, header: u8, kind: usize, id: usize, payload: usize) -> bool {
     let tnf = tnf_number(header);
     !spot.inside

@@ -24,6 +24,7 @@ pub struct WholePiece<'a> {
 }
 
 /// PAYLOAD_LENGTH at the front of the bytes, and the rest after it.
+#[inline(always)]
 fn payload_length_at(header: u8, bytes: &[u8]) -> Option<(u32, &[u8])> {
     if is_set(SHORT, header) {
         let [length, rest @ ..] = bytes else {
@@ -39,6 +40,7 @@ fn payload_length_at(header: u8, bytes: &[u8]) -> Option<(u32, &[u8])> {
 }
 
 /// ID_LENGTH at the front of the bytes, 0 where IL is clear, and the rest after it.
+#[inline(always)]
 fn id_length_at(header: u8, bytes: &[u8]) -> Option<(u8, &[u8])> {
     if !is_set(ID_THERE, header) {
         return Some((0, bytes));
@@ -50,6 +52,7 @@ fn id_length_at(header: u8, bytes: &[u8]) -> Option<(u8, &[u8])> {
 }
 
 /// The head at the front of the bytes, and its number of octets, if it is whole and may occur at the spot.
+#[inline(always)]
 pub(crate) fn head_at(spot: &Spot, bytes: &[u8]) -> Option<(Head, usize)> {
     let [header, kind_length, rest @ ..] = bytes else {
         return None;
@@ -73,6 +76,7 @@ pub(crate) fn head_at(spot: &Spot, bytes: &[u8]) -> Option<(Head, usize)> {
 }
 
 /// The first `count` bytes, and the rest after them.
+#[inline(always)]
 fn cut(bytes: &[u8], count: usize) -> Option<(&[u8], &[u8])> {
     if bytes.len() < count {
         return None;
@@ -82,6 +86,7 @@ fn cut(bytes: &[u8], count: usize) -> Option<(&[u8], &[u8])> {
 
 /// The piece at the front of the bytes, or None if they don't hold a whole one (NDEF 1.0, record
 /// layout). Any header octet will do: the call doesn't check whether the piece may occur in a message.
+#[inline(always)]
 pub fn whole_piece(bytes: &[u8]) -> Option<WholePiece<'_>> {
     let [header, kind_length, rest @ ..] = bytes else {
         return None;
@@ -119,11 +124,13 @@ impl WholePiece<'_> {
     }
 
     /// Whether it is clear at once that it may occur at the spot and begins a record there.
+    #[inline(always)]
     pub fn opens_at(&self, spot: &Spot) -> bool {
         opens(spot, self.header, self.kind.len(), self.id.len(), self.payload.len())
     }
 
     /// Whether it is clear at once that it may occur at the spot and is a record in one piece.
+    #[inline(always)]
     pub fn is_record_at(&self, spot: &Spot) -> bool {
         !self.is_chunked() && self.opens_at(spot)
     }

@@ -3,17 +3,9 @@
 
 use crate::proved::ndef_lang::{Kind, Leaf};
 use crate::proved::ndef_types::accepting::accept;
-#[cfg(feature = "alloc")]
-use crate::proved::ndef_types::alternative::Ac;
 use crate::proved::ndef_types::fields::{after_first, split_counted};
 use crate::proved::ndef_types::Power;
-#[cfg(feature = "alloc")]
-use crate::proved::ndef_value::{Bytes, Name};
-use crate::proved::ndef_value::{NoMemory, Profile, Refusal};
-#[cfg(feature = "alloc")]
-use crate::proved::shim::std::alloc::Global;
-#[cfg(feature = "alloc")]
-use crate::proved::shim::Vec;
+use crate::proved::ndef_value::{Profile, Refusal};
 
 /// The payload of an alternative carrier record, whose parts are slices of it (Connection Handover 1.2,
 /// Alternative Carrier record). Contracts see the octets of the payload.
@@ -29,28 +21,6 @@ fn skip(octets: &[u8], count: u8, skipped: usize) -> &[u8] {
         left = split_counted(left).1;
     }
     left
-}
-
-/// `count` references, each after its length, and the octets after them.
-#[cfg(feature = "alloc")]
-fn read_names(alloc: Global, count: u8, octets: &[u8]) -> Result<(Vec<Name>, &[u8]), NoMemory> {
-    let mut names = Vec::new(alloc);
-    let mut left = octets;
-    for _i in 0..count {
-        let (name, after) = split_counted(left);
-        let Ok(name) = Name::from_slice(alloc, name) else {
-            return Err(NoMemory);
-        };
-        names.push(name)?;
-        left = after;
-    }
-    Ok((names, left))
-}
-
-/// The auxiliary references after their count, and the octets after them.
-#[cfg(feature = "alloc")]
-fn read_auxiliary(alloc: Global, octets: &[u8]) -> Result<(Vec<Name>, &[u8]), NoMemory> {
-    read_names(alloc, octets[0], after_first(octets))
 }
 
 impl<'a> AlternativeParts<'a> {
@@ -104,21 +74,5 @@ impl<'a> AlternativeParts<'a> {
     pub fn rest(&self) -> &'a [u8] {
         let octets = self.after_reference();
         skip(after_first(octets), octets[0], usize::from(octets[0]))
-    }
-
-    /// A value of copies of the parts, or `NoMemory`.
-    #[cfg(feature = "alloc")]
-    pub fn to_value(&self, alloc: Global) -> Result<Ac, NoMemory> {
-        let power = Power::of(self.payload[0]);
-        let (reference, octets) = split_counted(after_first(self.payload));
-        let Ok(reference) = Name::from_slice(alloc, reference) else {
-            return Err(NoMemory);
-        };
-        let (auxiliary, rest) = read_auxiliary(alloc, octets)?;
-        let rest = Bytes::from_slice(alloc, rest)?;
-        match Ac::new(power, reference, auxiliary, rest) {
-            Ok(ac) => Ok(ac),
-            Err(_) => unreachable!(),
-        }
     }
 }

@@ -2,23 +2,9 @@
 //! Handover errors.
 
 use crate::proved::ndef_lang::{Kind, Leaf};
-use crate::proved::ndef_types::accepting::{accept, MOST};
+use crate::proved::ndef_types::accepting::accept;
 use crate::proved::ndef_types::fields::after_first;
-use crate::proved::ndef_types::{DecodeError, EncodeError};
-#[cfg(feature = "alloc")]
-use crate::proved::ndef_value::Bytes;
 use crate::proved::ndef_value::{NoMemory, Profile, Refusal};
-#[cfg(feature = "alloc")]
-use crate::proved::shim::std::alloc::Global;
-
-/// The reason why a handover fails (Connection Handover 1.2, Error record): a reason and its data, which is one
-/// byte for the reasons 1 and 3, four bytes for 2, and any bytes for all others.
-#[cfg(feature = "alloc")]
-#[derive(Clone, Debug, PartialEq, Eq, Hash)]
-pub struct HandoverError {
-    reason: u8,
-    detail: Bytes,
-}
 
 /// The payload of an error record, whose data are a slice of it (Connection Handover 1.2, Error record).
 /// Contracts see its octets.
@@ -50,14 +36,6 @@ impl<'a> ErrorParts<'a> {
     /// The data, of the length that the reason demands.
     pub fn detail(&self) -> &'a [u8] {
         after_first(self.payload)
-    }
-
-    /// An error of a copy of the data, or `NoMemory`.
-    #[cfg(feature = "alloc")]
-    pub fn to_value(&self, alloc: Global) -> Result<HandoverError, NoMemory> {
-        let [reason, detail @ ..] = self.payload else { unreachable!() };
-        let detail = Bytes::from_slice(alloc, detail)?;
-        Ok(HandoverError { reason: *reason, detail })
     }
 }
 
@@ -94,45 +72,5 @@ pub fn goes_with(reason: u8, detail: &[u8]) -> bool {
         1 | 3 => detail.len() == 1,
         2 => detail.len() == 4,
         _ => true,
-    }
-}
-
-#[cfg(feature = "alloc")]
-impl HandoverError {
-    /// An error of the reason with a copy of the data. `BadShape` comes before `NoMemory`.
-    pub fn new(alloc: Global, reason: u8, detail: &[u8]) -> Result<HandoverError, DetailError> {
-        if !goes_with(reason, detail) {
-            return Err(DetailError::BadShape);
-        }
-        let detail = Bytes::from_slice(alloc, detail)?;
-        Ok(HandoverError { reason, detail })
-    }
-
-    /// Returns the error of the payload of an error record. `Refused` if the payload isn't in
-    /// the set of its type or is longer than a payload may be, else `NoMemory`.
-    pub fn decode(alloc: Global, payload: &[u8]) -> Result<HandoverError, DecodeError> {
-        Ok(ErrorParts::parse(payload)?.to_value(alloc)?)
-    }
-
-    /// The payload of an error record. `TooLong` comes before `NoMemory`.
-    pub fn encode(&self, alloc: Global) -> Result<Bytes, EncodeError> {
-        let detail = self.detail.as_slice();
-        if detail.len() >= MOST {
-            return Err(EncodeError::TooLong);
-        }
-        let mut payload = Bytes::new(alloc);
-        payload.extend(&[self.reason])?;
-        payload.extend(detail)?;
-        Ok(payload)
-    }
-
-    /// The reason, any byte; 1 to 3 are those that the standard defines.
-    pub fn reason(&self) -> u8 {
-        self.reason
-    }
-
-    /// The data, of the length that the reason demands.
-    pub fn detail(&self) -> &[u8] {
-        self.detail.as_slice()
     }
 }

@@ -5,27 +5,9 @@ use crate::proved::ndef_lang::{Kind, Leaf};
 use crate::proved::ndef_types::accepting::{accept, MOST};
 use crate::proved::ndef_types::fields::after_first;
 use crate::proved::ndef_types::utf16::units_len;
-#[cfg(feature = "alloc")]
-use crate::proved::ndef_types::utf16::{push_text, read_utf16};
-use crate::proved::ndef_types::{DecodeError, EncodeError, Encoding};
-#[cfg(feature = "alloc")]
-use crate::proved::ndef_value::Bytes;
+use crate::proved::ndef_types::Encoding;
 use crate::proved::ndef_value::{NoMemory, Profile, Refusal};
-#[cfg(feature = "alloc")]
-use crate::proved::shim::std::alloc::{AllocError, Global};
-#[cfg(feature = "alloc")]
-use crate::proved::shim::String;
-use core::hash::{Hash, Hasher};
-
-/// A text in a language (RTD Text 1.0): its encoding, a language code of 0 to 63 bytes of ASCII, such as
-/// `en`, and the text.
-#[cfg(feature = "alloc")]
-#[derive(Clone, Debug)]
-pub struct Text {
-    encoding: Encoding,
-    language: String,
-    text: String,
-}
+use core::hash::Hash;
 
 /// The reason why some parts make no text, in the order in which the reasons are tried.
 #[derive(Clone, Copy, Debug, PartialEq, Eq, Hash)]
@@ -49,30 +31,6 @@ impl core::fmt::Display for TextError {
 }
 
 impl core::error::Error for TextError {}
-
-#[cfg(feature = "alloc")]
-impl From<AllocError> for TextError {
-    fn from(_: AllocError) -> TextError {
-        TextError::NoMemory
-    }
-}
-
-/// A copy of the text that the octets are.
-#[cfg(feature = "alloc")]
-fn read_utf8(alloc: Global, octets: &[u8]) -> Result<String, NoMemory> {
-    // The octets are UTF-8, as is required.
-    let text = core::str::from_utf8(octets).unwrap();
-    Ok(String::from_str(alloc, text)?)
-}
-
-/// The text that some octets spell.
-#[cfg(feature = "alloc")]
-fn read_octets(alloc: Global, encoding: Encoding, octets: &[u8]) -> Result<String, NoMemory> {
-    match encoding {
-        Encoding::Utf8 => read_utf8(alloc, octets),
-        Encoding::Utf16 => read_utf16(alloc, octets),
-    }
-}
 
 /// The payload of a Text record, whose parts are slices of it (RTD Text 1.0). Contracts see its octets.
 #[derive(Clone, Debug)]
@@ -128,15 +86,6 @@ impl<'a> TextParts<'a> {
             Encoding::Utf16 => None,
         }
     }
-
-    /// A text of copies of the parts, or `NoMemory`. UTF-16 is converted, without its byte order mark.
-    #[cfg(feature = "alloc")]
-    pub fn to_value(&self, alloc: Global) -> Result<Text, NoMemory> {
-        let encoding = self.encoding();
-        let language = String::from_str(alloc, self.language())?;
-        let text = read_octets(alloc, encoding, self.octets())?;
-        Ok(Text { encoding, language, text })
-    }
 }
 
 /// The status octet of a language code of some octets.
@@ -158,98 +107,4 @@ fn octets_fit(encoding: Encoding, text: &str, most: usize) -> bool {
 /// Whether the payload of a text of these parts has at most 4294967295 bytes.
 pub(crate) fn text_fits(encoding: Encoding, language: &str, text: &str) -> bool {
     octets_fit(encoding, text, MOST - 1 - language.len())
-}
-
-/// Appends the octets of a text.
-#[cfg(feature = "alloc")]
-fn push_octets(octets: &mut Bytes, encoding: Encoding, text: &str) -> Result<(), NoMemory> {
-    match encoding {
-        Encoding::Utf8 => octets.extend(text.as_bytes()),
-        Encoding::Utf16 => {
-            octets.extend(&[0xfe, 0xff])?;
-            push_text(octets, text)
-        }
-    }
-}
-
-#[cfg(feature = "alloc")]
-impl Text {
-    /// A text of copies. `TooLong` comes before `NotAscii`, and `NotAscii` before `NoMemory`. What the
-    /// language code means isn't looked at.
-    pub fn new(alloc: Global, encoding: Encoding, language: &str, text: &str) -> Result<Text, TextError> {
-        if language.len() > 63 {
-            return Err(TextError::TooLong);
-        }
-        if !language.is_ascii() {
-            return Err(TextError::NotAscii);
-        }
-        let language = String::from_str(alloc, language)?;
-        let text = String::from_str(alloc, text)?;
-        Ok(Text { encoding, language, text })
-    }
-
-    /// Returns the text of the payload of a Text record. A UTF-16 text may be big-endian or
-    /// little-endian after its byte order mark, or big-endian without one; the mark is no part of the
-    /// text. `Refused` if the payload isn't in the set of its type or is longer than a payload may
-    /// be, else `NoMemory`.
-    pub fn decode(alloc: Global, payload: &[u8]) -> Result<Text, DecodeError> {
-        Ok(TextParts::parse(payload)?.to_value(alloc)?)
-    }
-
-    /// The payload of a Text record; UTF-16 is written big-endian after `FE FF`. `TooLong` comes before
-    /// `NoMemory`.
-    pub fn encode(&self, alloc: Global) -> Result<Bytes, EncodeError> {
-        if !text_fits(self.encoding, &self.language, &self.text) {
-            return Err(EncodeError::TooLong);
-        }
-        Ok(self.payload(alloc)?)
-    }
-
-    /// The encoding of the text in its payload.
-    pub fn encoding(&self) -> Encoding {
-        self.encoding
-    }
-
-    /// The language code, 0 to 63 bytes of ASCII.
-    pub fn language(&self) -> &str {
-        self.language.as_str()
-    }
-
-    /// The text, without a byte order mark.
-    pub fn text(&self) -> &str {
-        self.text.as_str()
-    }
-
-    /// The payload.
-    fn payload(&self, alloc: Global) -> Result<Bytes, NoMemory> {
-        let language = self.language.as_bytes();
-        let status = status_octet(self.encoding, language.len() as u8);
-        let mut payload = Bytes::new(alloc);
-        payload.extend(&[status])?;
-        payload.extend(language)?;
-        push_octets(&mut payload, self.encoding, &self.text)?;
-        Ok(payload)
-    }
-}
-
-/// Texts are equal in encoding, language code and text.
-#[cfg(feature = "alloc")]
-impl PartialEq for Text {
-    fn eq(&self, other: &Text) -> bool {
-        let same_parts = self.encoding == other.encoding && self.language == other.language;
-        same_parts && self.text() == other.text()
-    }
-}
-
-#[cfg(feature = "alloc")]
-impl Eq for Text {}
-
-#[cfg(feature = "alloc")]
-impl Hash for Text {
-    fn hash<H: Hasher>(&self, state: &mut H) {
-        let encoding = self.encoding;
-        encoding.hash(state);
-        self.language.hash(state);
-        self.text().hash(state);
-    }
 }

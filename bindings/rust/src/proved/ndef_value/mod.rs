@@ -3,29 +3,15 @@
 //!
 //! The files:
 //!
-//! - `record.rs`, `message.rs`, `name.rs`, `bytes.rs`: records, messages, names and byte strings.
-//! - `limits.rs`: the greatest size of a message.
+//! - `record.rs`, `crates/ndef_value/src/message.rt`, `name.rs`, `crates/ndef_value/src/bytes.rt`: records, messages, names and byte strings.
+//! - `limits.rs`: the greatest size of a message. `no_memory.rs`: the error if memory is used up.
 //! - `crates/ndef_value/src/laws.rt`: properties of the bytes of messages. The crate ndef_format defines these.
-
-#[cfg(feature = "alloc")]
-mod bytes;
 mod limits;
-#[cfg(feature = "alloc")]
-mod message;
 mod name;
 mod no_memory;
 mod record;
-
 pub use crate::proved::ndef_format::{Profile, Reason, Refusal, Tnf, TnfError};
-#[cfg(feature = "alloc")]
-pub use bytes::Bytes;
 pub use limits::{Limits, OutOfRange, MOST_PAYLOAD, MOST_PIECES, MOST_RECORDS};
-#[cfg(feature = "alloc")]
-pub use message::{Message, MessageError};
-#[cfg(feature = "alloc")]
-pub use name::Name;
 pub use name::NameError;
 pub use no_memory::NoMemory;
-#[cfg(feature = "alloc")]
-pub use record::Record;
 pub use record::RecordError;

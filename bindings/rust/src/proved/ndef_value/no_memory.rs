@@ -1,7 +1,5 @@
 // Written by ports/erase of crates/ndef_value/src/no_memory.rt, which has the contracts: do not edit.
 //! Out of memory.
-#[cfg(feature = "alloc")]
-use crate::proved::shim::std::alloc::{AllocError, AllocFailed};
 
 /// An allocation failed. The value that was to grow is as it was before the call, unless the call states otherwise.
 #[derive(Clone, Copy, Debug, PartialEq, Eq, Hash)]
@@ -16,18 +14,3 @@ impl core::fmt::Display for NoMemory {
 }
 
 impl core::error::Error for NoMemory {}
-
-#[cfg(feature = "alloc")]
-impl From<AllocError> for NoMemory {
-    fn from(_: AllocError) -> NoMemory {
-        NoMemory
-    }
-}
-
-/// Drops the value that wasn't stored.
-#[cfg(feature = "alloc")]
-impl<T> From<AllocFailed<T>> for NoMemory {
-    fn from(_: AllocFailed<T>) -> NoMemory {
-        NoMemory
-    }
-}

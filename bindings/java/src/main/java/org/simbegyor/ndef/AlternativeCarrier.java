@@ -12,7 +12,7 @@ public final class AlternativeCarrier extends Payload {
 
     AlternativeCarrier(byte[] payload) throws FormatException {
         super(Types.ALTERNATIVE_CARRIER, payload);
-        power = PowerState.of(Library.told(Library.ALTERNATIVE, payload, Profile.STRICT)[0]);
+        power = PowerState.of(Library.numbers(Numbers.KIND_ALTERNATIVE, payload, Profile.STRICT)[0]);
         references = Library.list(Library.REFERENCES, payload, null);
     }
 

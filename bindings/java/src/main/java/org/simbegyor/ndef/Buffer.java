@@ -6,9 +6,6 @@ package org.simbegyor.ndef;
  */
 final class Buffer {
     private static final int STATUS = 0, PLACE = 1, REASON = 2, COUNT = 3, HEAD = 4;
-    private static final int AT = 0, TNF = 2, KIND = 3, TYPE_AT = 4, TYPE_LENGTH = 5, ID_LENGTH = 6, PAYLOAD_AT = 7,
-            PAYLOAD_LENGTH = 8, CHUNKS = 9, FORM = 10, NUMBER = 11, LANGUAGE_AT = 12, LANGUAGE_LENGTH = 13, TEXT_AT = 14,
-            WORDS = 16;
     /** For how many records a thread has room at first, and for how many at most. */
     private static final int FEW = 24, MOST = 1024;
     private static final ThreadLocal<Buffer> BUFFERS = new ThreadLocal<>();
@@ -16,7 +13,7 @@ final class Buffer {
     private final int[] words;
 
     private Buffer(int records) {
-        words = new int[HEAD + records * WORDS];
+        words = new int[HEAD + records * Numbers.ITEM_WORDS];
     }
 
     /** Reads the message with which some of the bytes begin. */
@@ -26,12 +23,12 @@ final class Buffer {
             buffer = kept(new Buffer(FEW));
         }
         buffer.fill(bytes, at, length, limits, profile);
-        if (buffer.words[STATUS] == Library.NO_ROOM) {
+        if (buffer.words[STATUS] == Numbers.BUFFER_TOO_SMALL) {
             int count = buffer.words[COUNT];
             buffer = count <= MOST ? kept(new Buffer(count)) : new Buffer(count);
             buffer.fill(bytes, at, length, limits, profile);
         }
-        if (buffer.words[STATUS] != Library.OK) {
+        if (buffer.words[STATUS] != Numbers.OK) {
             throw FormatException.of(buffer.words[PLACE], buffer.words[REASON]);
         }
         return buffer;
@@ -44,7 +41,7 @@ final class Buffer {
 
     private void fill(byte[] bytes, int at, int length, Limits limits, Profile profile) {
         Library.read(bytes, at, length, (int) limits.payload(), limits.records(), limits.chunks(), limits.flags(profile),
-                words, (words.length - HEAD) / WORDS);
+                words, (words.length - HEAD) / Numbers.ITEM_WORDS);
     }
 
     /** How many bytes the message has. */
@@ -56,25 +53,25 @@ final class Buffer {
     NdefRecord[] records(byte[] bytes, int base, Profile profile) {
         NdefRecord[] records = new NdefRecord[words[COUNT]];
         for (int i = 0; i < records.length; i++) {
-            records[i] = record(bytes, base, HEAD + i * WORDS, profile);
+            records[i] = record(bytes, base, HEAD + i * Numbers.ITEM_WORDS, profile);
         }
         return records;
     }
 
     private NdefRecord record(byte[] bytes, int base, int row, Profile profile) {
-        int kind = words[row + KIND];
-        int idLength = words[row + ID_LENGTH];
-        byte[] type = kind == Library.TEXT ? Types.TEXT : kind == Library.URI ? Types.URI
-                : NdefRecord.part(bytes, base + words[row + TYPE_AT], words[row + TYPE_LENGTH]);
-        byte[] id = NdefRecord.part(bytes, base + words[row + PAYLOAD_AT] - idLength, idLength);
-        return new NdefRecord(words[row + TNF], type, id, payload(bytes, base, row), profile, kind, value(row));
+        int kind = words[row + Numbers.ITEM_KIND];
+        int idLength = words[row + Numbers.ITEM_ID_LENGTH];
+        byte[] type = kind == Numbers.KIND_TEXT ? Types.TEXT : kind == Numbers.KIND_URI ? Types.URI
+                : NdefRecord.part(bytes, base + words[row + Numbers.ITEM_TYPE_AT], words[row + Numbers.ITEM_TYPE_LENGTH]);
+        byte[] id = NdefRecord.part(bytes, base + words[row + Numbers.ITEM_PAYLOAD_AT] - idLength, idLength);
+        return new NdefRecord(words[row + Numbers.ITEM_TNF], type, id, payload(bytes, base, row), profile, kind, value(row));
     }
 
     private byte[] payload(byte[] bytes, int base, int row) {
-        if (words[row + CHUNKS] == 1) {
-            return NdefRecord.part(bytes, base + words[row + PAYLOAD_AT], words[row + PAYLOAD_LENGTH]);
+        if (words[row + Numbers.ITEM_CHUNKS] == 1) {
+            return NdefRecord.part(bytes, base + words[row + Numbers.ITEM_PAYLOAD_AT], words[row + Numbers.ITEM_PAYLOAD_LENGTH]);
         }
-        byte[] joined = Library.bytes(Library.READ_PAYLOAD, bytes, null, base + words[row + AT], 0, null);
+        byte[] joined = Library.bytes(Library.READ_PAYLOAD, bytes, null, base + words[row + Numbers.ITEM_AT], 0, null);
         if (joined == null) {
             throw new IllegalStateException("another thread changes the bytes");
         }
@@ -83,13 +80,13 @@ final class Buffer {
 
     /** How the value of a record lies in its payload. */
     private int value(int row) {
-        int payloadAt = words[row + PAYLOAD_AT];
-        int textAt = words[row + TEXT_AT] - payloadAt;
-        switch (words[row + FORM]) {
+        int payloadAt = words[row + Numbers.ITEM_PAYLOAD_AT];
+        int textAt = words[row + Numbers.ITEM_TEXT_AT] - payloadAt;
+        switch (words[row + Numbers.ITEM_FORM]) {
             case Value.UTF8:
-                return Value.text(words[row + LANGUAGE_AT] - payloadAt, words[row + LANGUAGE_LENGTH], textAt);
+                return Value.text(words[row + Numbers.ITEM_LANGUAGE_AT] - payloadAt, words[row + Numbers.ITEM_LANGUAGE_LENGTH], textAt);
             case Value.URI:
-                return Value.uri(words[row + NUMBER], textAt);
+                return Value.uri(words[row + Numbers.ITEM_NUMBER], textAt);
             default:
                 return Value.NONE;
         }

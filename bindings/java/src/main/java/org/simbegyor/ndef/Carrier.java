@@ -10,10 +10,10 @@ public final class Carrier extends Payload {
 
     Carrier(byte[] payload) throws FormatException {
         super(Types.HANDOVER_CARRIER, payload);
-        int[] told = Library.told(Library.CARRIER, payload, Profile.STRICT);
-        type = part(told[0], told[1]);
-        data = part(told[2], told[3]);
-        format = told[4];
+        int[] numbers = Library.numbers(Numbers.KIND_CARRIER, payload, Profile.STRICT);
+        type = part(numbers[0], numbers[1]);
+        data = part(numbers[2], numbers[3]);
+        format = numbers[4];
     }
 
     private Carrier(byte[] payload, int format, byte[] type, byte[] data) {

@@ -7,9 +7,9 @@ import java.nio.ByteBuffer;
  * arrives in parts.
  */
 public final class Checker {
-    private final long[] state = new long[Library.CHECKER_WORDS];
+    private final long[] state = new long[Numbers.CHECKER_LONGS];
     /** What the library answered last: an offset, a reason and the number of records. */
-    private final long[] told = new long[3];
+    private final long[] checked = new long[3];
     private long fed;
 
     /** Begins a check within the default limits, with the strict profile. */
@@ -39,15 +39,15 @@ public final class Checker {
         int length = bytes.remaining();
         int status;
         if (bytes.isDirect()) {
-            status = Library.feedDirect(state, bytes, bytes.position(), length, told);
+            status = Library.feedDirect(state, bytes, bytes.position(), length, checked);
         } else if (bytes.hasArray()) {
-            status = Library.feed(state, bytes.array(), bytes.arrayOffset() + bytes.position(), length, told);
+            status = Library.feed(state, bytes.array(), bytes.arrayOffset() + bytes.position(), length, checked);
         } else {
             byte[] copy = new byte[length];
             bytes.duplicate().get(copy);
-            status = Library.feed(state, copy, 0, length, told);
+            status = Library.feed(state, copy, 0, length, checked);
         }
-        long taken = Math.max(0, Math.min(told[0] - fed, length));
+        long taken = Math.max(0, Math.min(checked[0] - fed, length));
         bytes.position(bytes.position() + (int) taken);
         return isWhole(status, length);
     }
@@ -60,15 +60,15 @@ public final class Checker {
      * @throws FormatException if a byte is refused; its offset counts from the first byte that was fed
      */
     public synchronized boolean feed(byte[] bytes) throws FormatException {
-        return isWhole(Library.feed(state, bytes, 0, bytes.length, told), bytes.length);
+        return isWhole(Library.feed(state, bytes, 0, bytes.length, checked), bytes.length);
     }
 
     private boolean isWhole(int status, int length) throws FormatException {
         fed += length;
-        if (status != Library.OK && status != Library.MORE) {
-            throw FormatException.of(told);
+        if (status != Numbers.OK && status != Numbers.MORE) {
+            throw FormatException.of(checked);
         }
-        return status == Library.OK;
+        return status == Numbers.OK;
     }
 
     /**
@@ -77,7 +77,7 @@ public final class Checker {
      * @return its length where it is whole, the offset of the refused byte, or else the number of bytes fed
      */
     public synchronized long length() {
-        return told[0];
+        return checked[0];
     }
 
     /**
@@ -86,6 +86,6 @@ public final class Checker {
      * @return their number where the message is whole, else 0
      */
     public synchronized int records() {
-        return (int) told[2];
+        return (int) checked[2];
     }
 }

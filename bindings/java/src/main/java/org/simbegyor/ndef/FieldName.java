@@ -4,67 +4,67 @@ package org.simbegyor.ndef;
 public enum FieldName {
     /** A name that only a newer library knows. */
     OTHER(0),
-    /** The header byte: MB, ME, CF, SR, IL and TNF. */
+    /** The header octet: MB, ME, CF, SR, IL and TNF (NDEF 1.0, record layout). */
     HEADER(1),
-    /** The length of the type. */
+    /** TYPE_LENGTH, one octet. */
     TYPE_LENGTH(2),
-    /** The length of the payload, 1 byte in a short record, else 4. */
+    /** PAYLOAD_LENGTH, one octet in a short record, else four. */
     PAYLOAD_LENGTH(3),
-    /** The length of the id, where there is one. */
+    /** ID_LENGTH, one octet, there exactly if IL is set. */
     ID_LENGTH(4),
-    /** The type. */
+    /** TYPE. */
     TYPE(5),
-    /** The id. */
+    /** ID. */
     ID(6),
-    /** A payload of another type, or a chunk. */
+    /** PAYLOAD, where the standards define no fields of it, or it comes in several chunks. */
     PAYLOAD(7),
-    /** The status of a text. */
+    /** The status octet of a text (RTD Text 1.0). */
     STATUS(8),
     /** The language code of a text. */
     LANGUAGE(9),
-    /** The byte order mark of a text in UTF-16. */
+    /** The byte order mark of a text in UTF-16 (RFC 2781). */
     MARK(10),
-    /** A text. */
+    /** A text (RTD Text 1.0). */
     TEXT(11),
-    /** The identifier code of a URI. */
+    /** The identifier code of a URI (RTD URI 1.0). */
     URI_CODE(12),
-    /** What follows the prefix of a URI. */
+    /** The rest of a URI, after the prefix that the code denotes. */
     URI_REST(13),
-    /** The action of a smart poster. */
+    /** The recommended action of a smart poster (RTD Smart Poster 1.0). */
     ACTION(14),
-    /** The size of what the URI of a smart poster leads to. */
+    /** The size of the object to which a smart poster refers. */
     SIZE(15),
-    /** The media type of what the URI of a smart poster leads to. */
+    /** The media type of the object to which a smart poster refers. */
     MEDIA_TYPE(16),
-    /** The version of a handover. */
+    /** The version octet of a handover (Connection Handover 1.2). */
     VERSION(17),
     /** The random number of a collision resolution. */
     COLLISION(18),
-    /** The power state of an alternative carrier. */
+    /** The octet with the carrier power state (Connection Handover 1.2, Alternative Carrier record). */
     POWER(19),
-    /** The length of the carrier data reference. */
+    /** The length of a carrier data reference. */
     REFERENCE_LENGTH(20),
-    /** The carrier data reference. */
+    /** A carrier data reference. */
     REFERENCE(21),
-    /** How many auxiliary references there are. */
+    /** The number of auxiliary data references that follow. */
     AUXILIARY_COUNT(22),
-    /** The length of an auxiliary reference. */
+    /** The length of an auxiliary data reference. */
     AUXILIARY_LENGTH(23),
-    /** An auxiliary reference. */
+    /** An auxiliary data reference. */
     AUXILIARY(24),
-    /** The bytes after the references. */
+    /** The reserved octets after the auxiliary data references. */
     AFTER_AUXILIARY(25),
-    /** The reason of a handover's error. */
+    /** The reason of a handover error. */
     ERROR_REASON(26),
-    /** The data of a handover's error. */
+    /** The data of a handover error. */
     ERROR_DATA(27),
-    /** The carrier type format of a handover carrier. */
+    /** The octet with the carrier type format (Connection Handover 1.2, Handover Carrier record). */
     CARRIER_FORMAT(28),
-    /** The length of the carrier type. */
+    /** The length of a carrier type. */
     CARRIER_TYPE_LENGTH(29),
-    /** The carrier type. */
+    /** A carrier type. */
     CARRIER_TYPE(30),
-    /** The carrier data. */
+    /** Carrier data. */
     CARRIER_DATA(31);
 
     private static final FieldName[] ALL = values();

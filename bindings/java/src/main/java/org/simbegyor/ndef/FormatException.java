@@ -40,8 +40,8 @@ public class FormatException extends Exception {
         reason = Reason.OTHER;
     }
 
-    private FormatException(long place, Reason reason, String sentence) {
-        super("refused at " + place + ": " + sentence);
+    private FormatException(long place, Reason reason) {
+        super(line(place, reason));
         this.place = place;
         this.reason = reason;
     }
@@ -52,14 +52,17 @@ public class FormatException extends Exception {
     }
 
     static FormatException of(long place, long number) {
-        Reason reason = Reason.of(number);
-        return new FormatException(place, reason, number + " " + reason + ": " + reason.sentence());
+        return new FormatException(place, Reason.of(number));
     }
 
     /** Bytes follow where none may follow. */
     static FormatException ofRest(long place) {
-        Reason reason = Reason.TRAILING_BYTES;
-        return new FormatException(place, reason, reason + ": " + reason.sentence());
+        return new FormatException(place, Reason.TRAILING_BYTES);
+    }
+
+    /** A refusal in one line, as each language prints it. */
+    static String line(long place, Reason reason) {
+        return "refused at " + place + ": " + reason + ": " + reason.sentence();
     }
 
     /**

@@ -9,7 +9,7 @@ import java.util.Objects;
 /** What a {@link HandoverRequest} and a {@link HandoverSelect} share. */
 public abstract class Handover extends Payload {
     /** The numbers that the library gives: the version, and for a request its random number. */
-    private final int[] told;
+    private final int[] numbers;
     private final int kind;
     private final List<NdefRecord> records;
     private final List<AlternativeCarrier> alternatives;
@@ -17,20 +17,20 @@ public abstract class Handover extends Payload {
     Handover(int kind, byte[] type, byte[] payload, Profile profile) throws FormatException {
         super(type, payload);
         this.kind = kind;
-        told = Library.told(kind, payload, profile);
+        numbers = Library.numbers(kind, payload, profile);
         int[] rows = Library.list(Library.RECORDS, payload, null, 1, payload.length - 1, null, null);
         records = Collections.unmodifiableList(Arrays.asList(NdefRecord.listOf(payload, rows, profile)));
         List<AlternativeCarrier> found = new ArrayList<>();
         for (NdefRecord record : records) {
-            if (record.kind(kind) == Library.ALTERNATIVE) {
+            if (record.kind(kind) == Numbers.KIND_ALTERNATIVE) {
                 found.add(new AlternativeCarrier(record.payload()));
             }
         }
         alternatives = Collections.unmodifiableList(found);
     }
 
-    int told(int index) {
-        return told[index];
+    int number(int index) {
+        return numbers[index];
     }
 
     /** What a record of this handover is. */
@@ -44,7 +44,7 @@ public abstract class Handover extends Payload {
      * @return 1
      */
     public int majorVersion() {
-        return told[0];
+        return numbers[0];
     }
 
     /**
@@ -53,7 +53,7 @@ public abstract class Handover extends Payload {
      * @return 0 to 15
      */
     public int minorVersion() {
-        return told[1];
+        return numbers[1];
     }
 
     /**

@@ -5,11 +5,11 @@ import java.util.OptionalLong;
 
 /** The error of a handover select ({@code err}, Connection Handover 1.2). */
 public final class HandoverError extends Payload {
-    private final int[] told;
+    private final int[] numbers;
 
     HandoverError(byte[] payload) throws FormatException {
         super(Types.ERROR, payload);
-        told = Library.told(Library.ERROR, payload, Profile.STRICT);
+        numbers = Library.numbers(Numbers.KIND_ERROR, payload, Profile.STRICT);
     }
 
     /**
@@ -64,7 +64,7 @@ public final class HandoverError extends Payload {
      * @return 0 to 255; the standard defines 1 to 3
      */
     public int reason() {
-        return told[2];
+        return numbers[2];
     }
 
     /**
@@ -73,7 +73,7 @@ public final class HandoverError extends Payload {
      * @return a copy of their bytes
      */
     public byte[] data() {
-        return part(told[0], told[1]);
+        return part(numbers[0], numbers[1]);
     }
 
     /**
@@ -82,7 +82,7 @@ public final class HandoverError extends Payload {
      * @return the number, with the reasons 1 to 3
      */
     public OptionalLong number() {
-        return told[3] == 0 ? OptionalLong.empty() : OptionalLong.of(told[4] & 0xffffffffL);
+        return numbers[3] == 0 ? OptionalLong.empty() : OptionalLong.of(numbers[4] & 0xffffffffL);
     }
 
     @Override

@@ -3,7 +3,7 @@ package org.simbegyor.ndef;
 /** A handover request ({@code Hr}, Connection Handover 1.2): the carriers that a device offers. */
 public final class HandoverRequest extends Handover {
     HandoverRequest(byte[] payload, Profile profile) throws FormatException {
-        super(Library.REQUEST, Types.HANDOVER_REQUEST, payload, profile);
+        super(Numbers.KIND_REQUEST, Types.HANDOVER_REQUEST, payload, profile);
     }
 
     /**
@@ -36,7 +36,7 @@ public final class HandoverRequest extends Handover {
      * @return 0 to 65535
      */
     public int collision() {
-        return told(2);
+        return number(2);
     }
 
     @Override

@@ -7,10 +7,10 @@ public final class HandoverSelect extends Handover {
     private final HandoverError error;
 
     HandoverSelect(byte[] payload, Profile profile) throws FormatException {
-        super(Library.SELECT, Types.HANDOVER_SELECT, payload, profile);
+        super(Numbers.KIND_SELECT, Types.HANDOVER_SELECT, payload, profile);
         HandoverError found = null;
         for (NdefRecord record : records()) {
-            if (found == null && kindOf(record) == Library.ERROR) {
+            if (found == null && kindOf(record) == Numbers.KIND_ERROR) {
                 found = new HandoverError(record.payload());
             }
         }

@@ -14,11 +14,11 @@ public enum HintKind {
     TERMINATOR(5),
     /** The bytes are hexadecimal digits. */
     DIGITS(6),
-    /** The bytes are a dump by {@code xxd}. */
+    /** The bytes are a dump by xxd. */
     XXD(7),
-    /** The bytes are a dump by {@code hexdump -C}. */
+    /** The bytes are a dump by hexdump -C. */
     HEXDUMP(8),
-    /** The bytes are a dump by {@code od} or {@code hexdump}, which may show numbers of two bytes. */
+    /** The bytes are a dump by od or hexdump, which may show numbers of two bytes. */
     WORDS(9),
     /** The bytes are an NFC file of a Flipper. */
     FLIPPER(10),
@@ -28,7 +28,7 @@ public enum HintKind {
     BASE64(12),
     /** The identifier code of a URI may be missing. */
     CODE(13),
-    /** {@link Profile#STANDARD} reads the bytes. */
+    /** A reader of the standard profile accepts the bytes. */
     STANDARD(14);
 
     private static final HintKind[] ALL = values();

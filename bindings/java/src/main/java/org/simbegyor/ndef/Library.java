@@ -19,15 +19,9 @@ final class Library {
     static final int RECORDS = 0, REFERENCES = 1, ICONS = 2, TITLE = 3, MEDIA_TYPE = 4, LINKS = 5, FIELDS = 6;
     /** What {@link #name} is asked for. */
     static final int REASON_NAME = 0, REASON_SENTENCE = 1, FIELD_NAME = 2, URI_PREFIX = 3;
-    /** What a payload is, as {@code ndef_kinds} of {@code ndef.h} numbers it. */
-    static final int OTHER = 0, TEXT = 1, URI = 2, SMART_POSTER = 3, REQUEST = 4, SELECT = 5, CARRIER = 6,
-            ALTERNATIVE = 10, ERROR = 12;
-    /** The answers of {@link #feed}, and of {@link #read}. */
-    static final int OK = 0, NO_ROOM = 2, MORE = 5;
-    /** How a record is written. */
-    static final int FIRST = 1, LAST = 2, LONG = 4;
-    /** The words of the state of a check. */
-    static final int CHECKER_WORDS = 61;
+
+    /** How a record is written, by the names that {@link RecordInputStream.Position} has had since 1.0. */
+    static final int FIRST = Numbers.WRITE_FIRST, LAST = Numbers.WRITE_LAST;
 
     static {
         Loader.load();
@@ -87,16 +81,16 @@ final class Library {
     static native byte[] alternative(int power, byte[] references, int[] lengths);
 
     /** The numbers that a payload of a kind says; null where it is none. */
-    static native int[] tell(int kind, byte[] payload, int flags, long[] why);
+    static native int[] numbers(int kind, byte[] payload, int flags, long[] why);
 
     /** Begins a check: the answer is not {@link #OK} where a limit is out of range. */
     static native int begin(int[] limits, long[] state);
 
     /** Feeds a check with some bytes of an array. */
-    static native int feed(long[] state, byte[] bytes, int at, int length, long[] told);
+    static native int feed(long[] state, byte[] bytes, int at, int length, long[] checked);
 
     /** Feeds a check with some bytes of a direct buffer. */
-    static native int feedDirect(long[] state, ByteBuffer bytes, int at, int length, long[] told);
+    static native int feedDirect(long[] state, ByteBuffer bytes, int at, int length, long[] checked);
 
     /** A name; null where there is none. */
     static native String name(int list, int number);
@@ -116,12 +110,12 @@ final class Library {
     }
 
     /** The numbers that a payload says. */
-    static int[] told(int kind, byte[] payload, Profile profile) throws FormatException {
+    static int[] numbers(int kind, byte[] payload, Profile profile) throws FormatException {
         long[] why = new long[3];
-        int[] told = tell(kind, payload, profile.flags(), why);
-        if (told == null) {
+        int[] numbers = numbers(kind, payload, profile.flags(), why);
+        if (numbers == null) {
             throw FormatException.of(why);
         }
-        return told;
+        return numbers;
     }
 }

@@ -5,7 +5,6 @@ import org.jspecify.annotations.Nullable;
 
 /** How large a message may be, and whether its payloads are checked. */
 public final class Limits {
-    private static final int OPAQUE = 2;
     private static final Limits DEFAULTS = new Limits(1048576, 1024, 4096, 0);
 
     private final long payload;
@@ -108,11 +107,11 @@ public final class Limits {
      * @return the limits
      */
     public Limits withOpaque(boolean isOpaque) {
-        return new Limits(payload, records, chunks, isOpaque ? OPAQUE : 0);
+        return new Limits(payload, records, chunks, isOpaque ? Numbers.OPAQUE : 0);
     }
 
     private Limits checked() {
-        if (Library.begin(words(Profile.STRICT), new long[Library.CHECKER_WORDS]) != Library.OK) {
+        if (Library.begin(words(Profile.STRICT), new long[Numbers.CHECKER_LONGS]) != Numbers.OK) {
             throw new IllegalArgumentException(this + ": a limit is out of range");
         }
         return this;

@@ -144,6 +144,7 @@ public final class NdefMessage {
 
     /** The records of a message that has to be all of the bytes. */
     private static NdefRecord[] whole(byte[] bytes, Limits limits, Profile profile) throws FormatException {
+        Objects.requireNonNull(bytes, "the bytes are null");
         Buffer buffer = Buffer.read(bytes, 0, bytes.length, limits, profile);
         if (buffer.length() != bytes.length) {
             throw FormatException.ofRest(buffer.length());
@@ -228,7 +229,7 @@ public final class NdefMessage {
         if (chunk != (chunk & 0xffffffffL)) {
             throw new IllegalArgumentException("a chunk has 1 to 4294967295 bytes");
         }
-        int form = hasLongLengths ? Library.LONG : 0;
+        int form = hasLongLengths ? Numbers.WRITE_LONG : 0;
         check(form, (int) chunk);
         return bytes(form, (int) chunk, 0, records.length);
     }
@@ -256,7 +257,7 @@ public final class NdefMessage {
         if (chunk != (chunk & 0xffffffffL)) {
             throw new IllegalArgumentException("a chunk has 1 to 4294967295 bytes");
         }
-        int form = hasLongLengths ? Library.LONG : 0;
+        int form = hasLongLengths ? Numbers.WRITE_LONG : 0;
         check(form, (int) chunk);
         return stream(form, (int) chunk);
     }
@@ -271,7 +272,7 @@ public final class NdefMessage {
 
     /** The flags of the record with an index, written in a form. */
     private int flags(int form, int i) {
-        return form | (i == 0 ? Library.FIRST : 0) | (i + 1 == records.length ? Library.LAST : 0);
+        return form | (i == 0 ? Numbers.WRITE_FIRST : 0) | (i + 1 == records.length ? Numbers.WRITE_LAST : 0);
     }
 
     /** Some of the records in a form, from an index up to another. */
@@ -294,8 +295,8 @@ public final class NdefMessage {
      */
     public List<Link> links() throws FormatException {
         for (NdefRecord record : records) {
-            int kind = record.kind(Library.OTHER);
-            if (kind == Library.REQUEST || kind == Library.SELECT) {
+            int kind = record.kind(Numbers.KIND_OTHER);
+            if (kind == Numbers.KIND_REQUEST || kind == Numbers.KIND_SELECT) {
                 record.decode();
                 return Link.listOf(toByteArray(), records, record.payload());
             }

@@ -88,7 +88,7 @@ public final class NdefRecord {
         this(tnf, type, id, payload, profile, UNKNOWN, Value.NONE);
     }
 
-    /** The same, of which the library told what it is, and how its value lies in the payload. */
+    /** The same, of which the library says what it is, and how its value lies in the payload. */
     NdefRecord(int tnf, byte[] type, byte[] id, byte[] payload, Profile profile, int kind, int value) {
         this.tnf = (short) tnf;
         this.type = type;
@@ -305,7 +305,7 @@ public final class NdefRecord {
      * @return that of the record, in lower case and without parameters; {@code text/plain} for a text; null for others
      */
     public @Nullable String toMimeType() {
-        if (kind(Library.OTHER) == Library.TEXT) {
+        if (kind(Numbers.KIND_OTHER) == Numbers.KIND_TEXT) {
             return "text/plain";
         }
         return tnf == TNF_MIME_MEDIA ? normalized(new String(type, StandardCharsets.US_ASCII)) : null;
@@ -348,7 +348,7 @@ public final class NdefRecord {
 
     /** What the record is, in a payload of a kind or outside. */
     int kind(int within) {
-        return within == Library.OTHER && kind != UNKNOWN ? kind : Library.kind(tnf, type, within);
+        return within == Numbers.KIND_OTHER && kind != UNKNOWN ? kind : Library.kind(tnf, type, within);
     }
 
     /** How its value lies in the payload, as {@link Value} has it. */
@@ -398,7 +398,7 @@ public final class NdefRecord {
     }
 
     private static boolean isOne(int tnf, byte[] type, byte[] id, byte[] payload) {
-        int[] how = {tnf, Library.FIRST | Library.LAST, 0};
+        int[] how = {tnf, Numbers.WRITE_FIRST | Numbers.WRITE_LAST, 0};
         return Library.record(how, type, id, payload, null, 0) >= 0;
     }
 

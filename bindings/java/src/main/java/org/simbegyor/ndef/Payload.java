@@ -5,7 +5,7 @@ import java.util.Objects;
 import org.jspecify.annotations.Nullable;
 
 /**
- * What the payload of a record says. The classes in this package alone extend it. Two are equal if they are of the same
+ * What the payload of a record says. Only the classes in this package extend it; sealed interfaces would need Java 17. Two are equal if they are of the same
  * class, and their payloads have the same bytes.
  */
 public abstract class Payload {
@@ -20,20 +20,20 @@ public abstract class Payload {
 
     static Payload of(NdefRecord record) throws FormatException {
         byte[] payload = record.payload();
-        switch (record.kind(Library.OTHER)) {
-            case Library.TEXT:
+        switch (record.kind(Numbers.KIND_OTHER)) {
+            case Numbers.KIND_TEXT:
                 TextRecord text = Value.text(record.value(), payload);
                 return text != null ? text : new TextRecord(payload);
-            case Library.URI:
+            case Numbers.KIND_URI:
                 UriRecord uri = Value.uri(record.value(), payload);
                 return uri != null ? uri : new UriRecord(payload, record.profile());
-            case Library.SMART_POSTER:
+            case Numbers.KIND_SMART_POSTER:
                 return new SmartPoster(payload, record.profile());
-            case Library.REQUEST:
+            case Numbers.KIND_REQUEST:
                 return new HandoverRequest(payload, record.profile());
-            case Library.SELECT:
+            case Numbers.KIND_SELECT:
                 return new HandoverSelect(payload, record.profile());
-            case Library.CARRIER:
+            case Numbers.KIND_CARRIER:
                 return new Carrier(payload);
             default:
                 return new Other(record);

@@ -14,7 +14,7 @@ public final class RecordException extends IllegalArgumentException {
     private final String sentence;
 
     RecordException(int record, long place, Reason reason, String sentence) {
-        super("record " + record + " is refused at " + place + ": " + reason.number() + " " + reason + ": " + sentence);
+        super("record " + record + ": " + FormatException.line(place, reason));
         this.record = record;
         this.place = place;
         this.reason = reason;

@@ -30,12 +30,10 @@ public final class RecordInputStream extends InputStream {
         }
     }
 
-    /** The words of the state of a record, and that with the bytes of the payload that are written. */
-    private static final int WORDS = 8, TAKEN = 6;
     private static final int BLOCK = 8192;
     private static final byte[] NONE = {};
 
-    private final int[] state = new int[WORDS];
+    private final int[] state = new int[Numbers.WRITER_WORDS];
     private final byte[] type;
     private final byte[] id;
     private final long length;
@@ -103,14 +101,14 @@ public final class RecordInputStream extends InputStream {
             if (failure != null) {
                 throw new IOException(failure);
             }
-            int taken = state[TAKEN];
+            int taken = state[Numbers.WRITER_TAKEN];
             int count = Library.nextBytes(state, type, id, part, at, left, buffer, from, size);
             if (count < 0) {
                 refuseMore();
                 return -1;
             }
-            at += state[TAKEN] - taken;
-            left -= state[TAKEN] - taken;
+            at += state[Numbers.WRITER_TAKEN] - taken;
+            left -= state[Numbers.WRITER_TAKEN] - taken;
             if (count > 0) {
                 return count;
             }
@@ -124,7 +122,7 @@ public final class RecordInputStream extends InputStream {
         if (payload == null) {
             throw new IllegalStateException("another thread reads the stream");
         }
-        long taken = Integer.toUnsignedLong(state[TAKEN]);
+        long taken = Integer.toUnsignedLong(state[Numbers.WRITER_TAKEN]);
         if (part == NONE) {
             part = new byte[(int) Math.min(BLOCK, length)];
         }

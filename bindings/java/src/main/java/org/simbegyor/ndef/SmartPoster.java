@@ -19,7 +19,7 @@ public final class SmartPoster extends Payload {
     /** The action: open what the URI leads to for editing. */
     public static final int ACTION_OPEN = 2;
 
-    private final int[] told;
+    private final int[] numbers;
     private final String uri;
     private final List<NdefRecord> records;
     private final List<TextRecord> titles;
@@ -28,14 +28,14 @@ public final class SmartPoster extends Payload {
 
     SmartPoster(byte[] payload, Profile profile) throws FormatException {
         super(Types.SMART_POSTER, payload);
-        told = Library.told(Library.SMART_POSTER, payload, profile);
-        uri = new UriRecord(part(told[0], told[1]), profile).uri();
+        numbers = Library.numbers(Numbers.KIND_SMART_POSTER, payload, profile);
+        uri = new UriRecord(part(numbers[0], numbers[1]), profile).uri();
         int[] rows = Library.list(Library.RECORDS, payload, null);
         records = Collections.unmodifiableList(Arrays.asList(NdefRecord.listOf(payload, rows, profile)));
         ends = NdefRecord.endsOf(rows);
         List<TextRecord> found = new ArrayList<>();
         for (NdefRecord record : records) {
-            if (record.kind(Library.SMART_POSTER) == Library.TEXT) {
+            if (record.kind(Numbers.KIND_SMART_POSTER) == Numbers.KIND_TEXT) {
                 found.add(new TextRecord(record.payload()));
             }
         }
@@ -104,7 +104,7 @@ public final class SmartPoster extends Payload {
      * @return the action, as {@link #ACTION_DO}, if there is one; 3 to 255 are reserved
      */
     public OptionalInt action() {
-        return told[2] == 0 ? OptionalInt.empty() : OptionalInt.of(told[3]);
+        return numbers[2] == 0 ? OptionalInt.empty() : OptionalInt.of(numbers[3]);
     }
 
     /**
@@ -113,7 +113,7 @@ public final class SmartPoster extends Payload {
      * @return the size, if the poster gives it
      */
     public OptionalLong size() {
-        return told[4] == 0 ? OptionalLong.empty() : OptionalLong.of(told[5] & 0xffffffffL);
+        return numbers[4] == 0 ? OptionalLong.empty() : OptionalLong.of(numbers[5] & 0xffffffffL);
     }
 
     /**

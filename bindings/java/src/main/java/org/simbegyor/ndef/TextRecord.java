@@ -8,11 +8,11 @@ public final class TextRecord extends Payload {
 
     TextRecord(byte[] payload) throws FormatException {
         super(Types.TEXT, payload);
-        int[] told = Library.told(Library.TEXT, payload, Profile.STRICT);
-        language = Strings.ofUtf8(payload, told[0], told[1]);
-        isUtf16 = told[2] != 0;
+        int[] numbers = Library.numbers(Numbers.KIND_TEXT, payload, Profile.STRICT);
+        language = Strings.ofUtf8(payload, numbers[0], numbers[1]);
+        isUtf16 = numbers[2] != 0;
         text = isUtf16 ? Strings.ofUtf8(Library.bytes(Library.READ_TEXT, payload, null, 0, 0, null))
-                : Strings.ofUtf8(payload, told[3], told[4]);
+                : Strings.ofUtf8(payload, numbers[3], numbers[4]);
     }
 
     TextRecord(byte[] payload, String language, String text, boolean isUtf16) {

@@ -7,11 +7,11 @@ public final class UriRecord extends Payload {
     UriRecord(byte[] payload, Profile profile) throws FormatException {
         super(Types.URI, payload);
         long[] why = new long[3];
-        byte[] told = Library.bytes(Library.READ_URI, payload, null, profile.flags(), 0, why);
-        if (told == null) {
+        byte[] read = Library.bytes(Library.READ_URI, payload, null, profile.flags(), 0, why);
+        if (read == null) {
             throw FormatException.of(why);
         }
-        uri = Strings.ofUtf8(told);
+        uri = Strings.ofUtf8(read);
     }
 
     UriRecord(byte[] payload, String uri) {

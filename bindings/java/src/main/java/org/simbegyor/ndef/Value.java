@@ -1,7 +1,7 @@
 package org.simbegyor.ndef;
 
 /**
- * How the value of a record lies in its payload, as the library told it, in the four bytes of an int: the form; where the
+ * How the value of a record lies in its payload, as the library says it, in the four bytes of an int: the form; where the
  * language code of a text begins, or the code of the prefix of a URI; the length of the language code; and where the text
  * or the rest of the URI begins, which goes to the end.
  */

@@ -9,7 +9,7 @@ import org.simbegyor.ndef.NdefMessage;
 
 /** A message in a parcel of Android: for the extras of an intent, and for what an activity saves. */
 public final class MessageParcel implements Parcelable {
-    /** Makes the messages of parcels anew. A parcel without such a message is a BadParcelableException. */
+    /** Makes the messages of parcels again. A parcel without such a message is a BadParcelableException. */
     public static final Creator<MessageParcel> CREATOR = new Creator<MessageParcel>() {
         @Override
         public MessageParcel createFromParcel(Parcel parcel) {
