@@ -87,10 +87,10 @@ def with_constant(enum: str, given: Constant, interface: Interface) -> str:
         return f'{enum[:end]}, {given.name} = {given.number}{enum[end:]}'
     if is_last:
         enum = enum[:end] + ',' + enum[end:].replace('  ', ' ', 1)
-    behind = enum.index('\n', end)
-    line = enum[enum.rindex('\n', 0, end) + 1:behind]
+    line_end = enum.index('\n', end)
+    line = enum[enum.rindex('\n', 0, end) + 1:line_end]
     made = declarations.constant(given, '' if is_last else ',', max(line.find('/*') - 1, 0), interface)
-    return f'{enum[:behind]}\n{made}{enum[behind:]}'
+    return f'{enum[:line_end]}\n{made}{enum[line_end:]}'
 
 
 def put_constants(files: Dict[str, List[str]], group: Group, lacking: Sequence[Constant], interface: Interface) -> None:

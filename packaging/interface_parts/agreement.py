@@ -5,6 +5,7 @@ import dataclasses
 import re
 from typing import Dict, Iterator, Mapping, Sequence
 
+from . import declarations
 from .model import Call, Constant, Field, Group, Interface, Parameter, Struct
 
 HEADER = 'include/ndef.h'
@@ -34,6 +35,8 @@ def of_call(header: Call, crates: Call) -> Iterator[str]:
     for number, (one, other) in enumerate(zip(header.parameters, crates.parameters), 1):
         if one.type != other.type or other.name not in ('', one.name):
             yield f'{at}: parameter {number} is `{spelled(one)}`; {crates.where} has `{spelled(other)}`'
+    if header.mark != declarations.mark(crates):
+        yield f'{at} is marked {header.mark or "with nothing"}; it has to be {declarations.mark(crates) or "without"}'
 
 
 def member(field: Field) -> str:

@@ -34,11 +34,19 @@ def named(parameters: Sequence[Parameter]) -> List[Parameter]:
     return made
 
 
+def mark(call: Call) -> str:
+    """What compilers are to know of a call: the numbers of the pointers without a length, which are never NULL, and whether its
+    answer is to be looked at. That of ndef_begin need not be: each ndef_feed answers the same."""
+    pointers = [number for number, one in enumerate(call.parameters, 1) if one.role in ('in', 'out', 'change')]
+    name = 'NDEF_NEEDS' if call.result == 'void' or call.name == 'ndef_begin' else 'NDEF_ANSWERS'
+    return f'{name}({", ".join(map(str, pointers))})' if pointers else ''
+
+
 def prototype(call: Call) -> str:
-    """The prototype, cut between parameters where it is long."""
+    """The prototype with its mark, cut between parameters where it is long."""
     said = [f'{one.type} {one.name}'.replace('* ', '*').replace(' ', '\0') for one in named(call.parameters)]
     head = f'{call.result} {call.name}('
-    line = head.replace(' ', '\0') + (', '.join(said) or 'void') + ');'
+    line = ' '.join([head.replace(' ', '\0') + (', '.join(said) or 'void') + ')', mark(call).replace(' ', '\0')]).rstrip() + ';'
     return textwrap.fill(line, WIDTH, subsequent_indent=' ' * len(head)).replace('\0', ' ')
 
 

@@ -8,7 +8,7 @@ from .model import TOP, Call, Constant, Field, Group, Interface, Parameter, Rows
 
 PATH, NAMES = 'include/ndef.h', 'include/ndef_names.h'
 COMMENT = r'/\*((?:[^*]|\*(?!/))*)\*/'
-CALL = re.compile(r'^(uint32_t|void) (ndef_\w+)\(([^()]*)\);', re.M)
+CALL = re.compile(r'^(uint32_t|void) (ndef_\w+)\(([^()]*)\)(?:\s+(NDEF_\w+\([^()]*\)))?;', re.M)
 STRUCT = re.compile(r'^typedef struct (\w+) \{(.*?)\} \1;', re.M | re.S)
 ENUM = re.compile(r'^enum (\w*) ?\{(.*?)\};', re.M | re.S)
 LIST = re.compile(r'^#define (NDEF_[A-Z]+)\(X\) (.*?[^\\])$', re.M | re.S)
@@ -87,7 +87,7 @@ def declared(texts: Dict[str, str]) -> Interface:
     bare, names = without_comments(text), without_comments(texts[NAMES])
     left_over(bare)
     said = {**comments(text), **comments(texts[NAMES])}
-    calls = {name: Call(name, result, parameters(given), '', PATH) for result, name, given in CALL.findall(bare)}
+    calls = {name: Call(name, result, parameters(given), where=PATH, mark=mark) for result, name, given, mark in CALL.findall(bare)}
     silent = [name for name in calls if name not in said]
     if silent:
         raise Unknown(f'include/ndef.h: no comment stands before {", ".join(silent)}')

@@ -34,7 +34,7 @@ class Parameter:
 @dataclasses.dataclass(frozen=True)
 class Call:
     """A call: `text` is the first sentence of its doc comment, and `doc` all its lines; both are Rattle's, as for a struct. `answers` are
-    statuses of its contract."""
+    statuses of its contract, and `mark` is the macro after its prototype."""
     name: str
     result: str
     parameters: Tuple[Parameter, ...]
@@ -42,6 +42,7 @@ class Call:
     where: str = ''
     doc: str = ''
     answers: Tuple[str, ...] = ()
+    mark: str = ''
 
 
 @dataclasses.dataclass(frozen=True)

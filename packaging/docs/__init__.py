@@ -1,0 +1,1 @@
+"""What makes pages and drawings: packaging/contracts is made of it."""
