@@ -15,8 +15,17 @@ final class Face {
         int run() throws FormatException;
     }
 
-    /** Prints the nanoseconds of a call: the least of batches of five milliseconds or of one call. */
+    /** Calls so often, but not for longer than five measurements, that the JVM has compiled what the call runs; by -Xbatch it waits for that. */
+    private static void warm(double milliseconds, Call call) throws FormatException {
+        long begun = THREADS.getCurrentThreadCpuTime();
+        for (int i = 0; i < 50000 && THREADS.getCurrentThreadCpuTime() - begun < 5e6 * milliseconds; i++) {
+            call.run();
+        }
+    }
+
+    /** Prints the nanoseconds of a call, once it is warm: the least of batches of five milliseconds or of one call. */
     private static void time(String operation, String name, double milliseconds, Call call) throws FormatException {
+        warm(milliseconds, call);
         long begun = THREADS.getCurrentThreadCpuTime();
         double least = Double.MAX_VALUE;
         int batch = 1;

@@ -16,7 +16,7 @@ SIMDUTF8 = pathlib.Path(os.environ.get('CARGO_REGISTRY', '/usr/share/cargo/regis
 
 
 # All programs, by the name of the method that builds each.
-NAMES = ('c', 'c_v2', 'c_gcc', 'c_clang', 'hand', 'plain', 'utf8', 'qt', 'rust', 'rust_lto', 'rust_simd', 'cpp', 'python', 'javascript', 'java', 'go', 'page', 'commands')
+NAMES = ('c', 'c_v2', 'c_gcc', 'c_clang', 'plain', 'utf8', 'qt', 'rust', 'rust_lto', 'rust_simd', 'cpp', 'python', 'javascript', 'java', 'go', 'page', 'commands')
 
 
 class Missing(Exception):
@@ -64,7 +64,7 @@ class Bench:
         folder = TOP / 'out/dist' if self.made_of() == 'dist' else TOP / 'crates/ndef_c/out'
         plain = folder / ('libndef.a' if self.made_of() == 'dist' else 'libndef_c.a')
         faster = TOP / 'out/lib/libndef-v2.a'
-        return plain, faster if faster.exists() else None
+        return plain, faster if self.made_of() == 'crates' and faster.exists() else None
 
     def compiled(self, name, *more):
         program = self.bin / name
@@ -86,7 +86,7 @@ class Bench:
     def c_v2(self):
         faster = self.archives()[1]
         if not faster:
-            raise Missing('libndef-v2.a is for x86-64 alone')
+            raise Missing('only what was proved has other code for x86-64-v2, on x86-64')
         return self.compile_c(faster, 'c-v2')
 
     def compile_file(self, compiler):
@@ -103,9 +103,6 @@ class Bench:
 
     def c_clang(self):
         return self.compile_file('clang')
-
-    def hand(self):
-        return [self.compiled('hand'), self.messages]
 
     def counted(self):
         """The program whose instructions are counted."""
@@ -192,7 +189,7 @@ class Bench:
         self.make('java')
         jar = TOP / 'out/java/simbegyor-ndef.jar'
         run(['javac', '-cp', jar, '-d', self.folder / 'java', HERE / 'Face.java', HERE / 'Hand.java'])
-        return ['java', '-cp', '%s:%s' % (jar, self.folder / 'java'), 'Face', self.messages]
+        return ['java', '-Xbatch', '-cp', '%s:%s' % (jar, self.folder / 'java'), 'Face', self.messages]
 
     def go(self):
         needed('go', 'golang-go')

@@ -56,7 +56,7 @@ class Results:
     def files(self):
         rows = []
         for name, (spoken, count) in WORKLOADS.items():
-            gcc, clang, hand = (self.time(program, 'check', name) for program in ('c_gcc', 'c_clang', 'hand'))
+            gcc, clang, hand = self.time('c_gcc', 'check', name), self.time('c_clang', 'check', name), self.time('c_gcc', 'hand-check', name)
             rows.append([spoken, str(count), shown(gcc), shown(clang), shown(self.time('c', 'check', name)), shown(self.time('rust', 'read', name)),
                          shown(hand), ratio(gcc, hand)])
         return table(['`ndef_check` of', 'bytes', '`ndef.c` by gcc', 'by clang', '`libndef.a`', 'the Rust crate reads', 'by hand in C', 'gcc to by hand'],
@@ -145,8 +145,12 @@ class Results:
         return table(['command', 'each of 10000 messages "Hello"', 'one text of 1000000 bytes, not ASCII'], rows)
 
     def instructions(self):
-        rows = [[re.sub(r'^ndef_\w+', r'`\g<0>`', name), str(count)] for name, count in self.all['instructions'].items()]
-        return table(['call', 'instructions'], rows)
+        rows, counts = [], self.all['instructions']
+        for name, count in counts.items():
+            hand = counts.get('by hand: ' + name)
+            if not name.startswith('by hand: '):
+                rows.append([re.sub(r'^ndef_\w+', r'`\g<0>`', name), str(count), str(hand or NONE), ratio(count, hand)])
+        return table(['call', 'instructions', 'by hand in C', 'ratio'], rows)
 
     def growth(self):
         rows = []

@@ -4,9 +4,10 @@
  * point to. So every call is safe in any thread and in an interrupt handler. Every call returns, whatever bytes it
  * is given.
  *
- * On x86-64 the archive libndef.a and the shared library run on every processor. With glibc both take the code for
- * x86-64-v2 where the processor has that (the shared library by a file in glibc-hwcaps), and check long texts that are
- * not ASCII several times as fast. libndef-v2.a has that code alone, and needs SSSE3 and SSE4.1.
+ * On x86-64 the archive libndef.a and the shared library run on every processor. Made of what was proved, with glibc
+ * both take the code for x86-64-v2 where the processor has that (the shared library by a file in glibc-hwcaps), and
+ * check long texts that are not ASCII several times as fast; libndef-v2.a has that code alone, and needs SSSE3 and
+ * SSE4.1.
  *
  * The caller must keep these rules:
  *   - A pointer that comes with a length points to that many bytes (or elements). Where the length is 0, the pointer
@@ -37,7 +38,7 @@
 
 /* The version of this header. */
 #define NDEF_VERSION_MAJOR 1
-#define NDEF_VERSION_MINOR 0
+#define NDEF_VERSION_MINOR 1
 #define NDEF_VERSION_PATCH 0
 
 /* A length, or the offset of a byte counted from 0. It has 64 bits on every machine, since the library is compiled
@@ -48,6 +49,16 @@ typedef size_t ndef_size;
 typedef uint64_t ndef_size __attribute__((aligned(8)));
 #else
 typedef uint64_t ndef_size;
+#endif
+
+/* What compilers warn of, if they can, and what a program may define away: NULL for the pointers with these numbers, and
+ * with NDEF_ANSWERS an answer that nobody looks at. */
+#if !defined(NDEF_NEEDS) && defined(__GNUC__) && !defined(__TINYC__)
+#define NDEF_NEEDS(...) __attribute__((nonnull(__VA_ARGS__)))
+#define NDEF_ANSWERS(...) __attribute__((nonnull(__VA_ARGS__), warn_unused_result))
+#elif !defined(NDEF_NEEDS)
+#define NDEF_NEEDS(...)
+#define NDEF_ANSWERS(...)
 #endif
 
 #ifdef __cplusplus
@@ -103,7 +114,7 @@ typedef struct ndef_limits {
 enum { NDEF_STANDARD = 1, NDEF_OPAQUE = 2 };
 
 /* Writes the default limits, which suit tags: 1048576 bytes of payload, 1024 records, 4096 chunks, no flags. */
-void ndef_default_limits(ndef_limits *out);
+void ndef_default_limits(ndef_limits *out) NDEF_NEEDS(1);
 
 /* What a check finds. */
 typedef struct ndef_checked {
@@ -118,7 +129,8 @@ typedef struct ndef_checked {
  *   out->reason. If out->place is `length`, the reason is NDEF_REASON_END_OF_INPUT: the bytes begin a message, and
  *   more must follow. Where the bytes arrive in parts, use ndef_feed, which looks at each part once.
  * NDEF_BAD_ARGUMENT: a limit is out of range, or an unknown flag is set. */
-uint32_t ndef_check(const uint8_t *bytes, ndef_size length, const ndef_limits *limits, ndef_checked *out);
+uint32_t ndef_check(const uint8_t *bytes, ndef_size length, const ndef_limits *limits, ndef_checked *out)
+                    NDEF_ANSWERS(3, 4);
 
 /* The state of a check of bytes that arrive in parts. It lies in the caller's memory, aligned to 8 bytes. Of the
  * message it holds the bytes of one type at most, while that arrives in parts, and no byte of an id or a payload. What
@@ -130,7 +142,7 @@ typedef struct ndef_checker {
 /* Begins a check. It overwrites the checker, whatever that held. A checker needs no clean-up.
  * NDEF_OK.
  * NDEF_BAD_ARGUMENT: a limit is out of range, or an unknown flag is set. Then every ndef_feed answers that as well. */
-uint32_t ndef_begin(const ndef_limits *limits, ndef_checker *checker);
+uint32_t ndef_begin(const ndef_limits *limits, ndef_checker *checker) NDEF_NEEDS(1, 2);
 
 /* Checks the next `length` bytes; 0 is allowed. The answer is what ndef_check answers for all bytes fed since
  * ndef_begin, joined, except that NDEF_MORE says that the message goes on. Offsets count from the first byte that
@@ -140,21 +152,21 @@ uint32_t ndef_begin(const ndef_limits *limits, ndef_checker *checker);
  * NDEF_MORE: the bytes begin a message, and more must follow. out->place is the number of bytes fed, out->reason is
  *   NDEF_REASON_END_OF_INPUT. Feeding 0 bytes gives this answer again.
  * NDEF_BAD_ARGUMENT: ndef_begin answered so. */
-uint32_t ndef_feed(ndef_checker *checker, const uint8_t *bytes, ndef_size length, ndef_checked *out);
+uint32_t ndef_feed(ndef_checker *checker, const uint8_t *bytes, ndef_size length, ndef_checked *out) NDEF_ANSWERS(1, 4);
 
 /* Writes the name of a reason to the buffer, in ASCII, at most 16 bytes.
  * NDEF_OK, NDEF_BUFFER_TOO_SMALL. NDEF_BAD_ARGUMENT: there is no such reason. */
-uint32_t ndef_reason_name(uint32_t reason, uint8_t *buffer, ndef_size capacity, ndef_size *count);
+uint32_t ndef_reason_name(uint32_t reason, uint8_t *buffer, ndef_size capacity, ndef_size *count) NDEF_ANSWERS(4);
 
 /* Writes what a reason means to the buffer: a sentence of English in ASCII, at most 70 bytes; ndef-explain prints it.
  * NDEF_OK, NDEF_BUFFER_TOO_SMALL. NDEF_BAD_ARGUMENT: there is no such reason. */
-uint32_t ndef_reason_sentence(uint32_t reason, uint8_t *buffer, ndef_size capacity, ndef_size *count);
+uint32_t ndef_reason_sentence(uint32_t reason, uint8_t *buffer, ndef_size capacity, ndef_size *count) NDEF_ANSWERS(4);
 
 /* Writes what was wanted where the bytes are refused, or what the reason means: a sentence of ASCII, at most 192 bytes.
  * NDEF_OK, NDEF_BUFFER_TOO_SMALL. NDEF_END: they begin with a message. NDEF_BAD_ARGUMENT: as with ndef_fields. After
  *   these two the buffer and *count are unchanged. */
 uint32_t ndef_refusal_message(const uint8_t *bytes, ndef_size length, const ndef_limits *limits, uint8_t *buffer,
-                              ndef_size capacity, ndef_size *count);
+                              ndef_size capacity, ndef_size *count) NDEF_ANSWERS(3, 6);
 
 /* What a hint is about. */
 enum ndef_hint_number {
@@ -187,14 +199,15 @@ typedef struct ndef_found {
  * NDEF_OK, NDEF_BUFFER_TOO_SMALL, NDEF_BAD_ARGUMENT: as with ndef_refusal_message. NDEF_END: also where nothing is
  *   known to help. */
 uint32_t ndef_hint(const uint8_t *bytes, ndef_size length, const ndef_limits *limits, uint8_t *buffer,
-                   ndef_size capacity, ndef_size *count);
+                   ndef_size capacity, ndef_size *count) NDEF_ANSWERS(3, 6);
 
 /* Says by numbers what may help where the bytes are refused: which hint it is, and of one on the memory of a tag
  * where a message may begin and how many bytes the tag has for it.
  * NDEF_OK: `out` has the hint whose sentence ndef_hint writes.
  * NDEF_END: the bytes begin with a message, or nothing is known to help; `out` is unchanged.
  * NDEF_BAD_ARGUMENT: as with ndef_fields; `out` is unchanged. */
-uint32_t ndef_find_hint(const uint8_t *bytes, ndef_size length, const ndef_limits *limits, ndef_found *out);
+uint32_t ndef_find_hint(const uint8_t *bytes, ndef_size length, const ndef_limits *limits, ndef_found *out)
+                        NDEF_ANSWERS(3, 4);
 
 /* ---- read records */
 
@@ -218,7 +231,7 @@ typedef struct ndef_record {
  * In other bytes the call says whether a whole record begins at the offset: an unchunked record, or an initial
  * chunk with all chunks that follow.
  * NDEF_OK: `out` has the record. NDEF_END: `at` is `length`. NDEF_BAD_ARGUMENT: no record begins at any other `at`. */
-uint32_t ndef_record_at(const uint8_t *bytes, ndef_size length, ndef_size at, ndef_record *out);
+uint32_t ndef_record_at(const uint8_t *bytes, ndef_size length, ndef_size at, ndef_record *out) NDEF_ANSWERS(4);
 
 /* What the payload of a record is, as its type says. */
 enum ndef_kinds {
@@ -240,12 +253,12 @@ enum ndef_kinds {
  * that payload. If ndef_check took the message without NDEF_OPAQUE, each payload whose kind is not NDEF_KIND_OTHER is a
  * payload of that kind. The answer is also NDEF_KIND_OTHER where the type of the record does not lie within the bytes,
  * its tnf is above 5, or payloads of the kind `within` hold no message. */
-uint32_t ndef_kind(const uint8_t *bytes, ndef_size length, const ndef_record *record, uint32_t within);
+uint32_t ndef_kind(const uint8_t *bytes, ndef_size length, const ndef_record *record, uint32_t within) NDEF_ANSWERS(3);
 
 /* Writes the whole payload of the record that begins at an offset to the buffer, its chunks joined.
  * NDEF_OK, NDEF_BUFFER_TOO_SMALL. NDEF_BAD_ARGUMENT: no record begins at `at`, or `at` is `length`. */
 uint32_t ndef_payload(const uint8_t *bytes, ndef_size length, ndef_size at, uint8_t *buffer, ndef_size capacity,
-                      ndef_size *count);
+                      ndef_size *count) NDEF_ANSWERS(6);
 
 /* ---- write records */
 
@@ -268,7 +281,7 @@ enum { NDEF_WRITE_FIRST = 1, NDEF_WRITE_LAST = 2, NDEF_WRITE_LONG = 4 };
  *   NDEF_TNF_EMPTY and the type, id or payload is not empty. */
 uint32_t ndef_write_record(const uint8_t *type, ndef_size type_length, const uint8_t *id, ndef_size id_length,
                            const uint8_t *payload, ndef_size payload_length, const ndef_writing *how, uint8_t *buffer,
-                           ndef_size capacity, ndef_size *count);
+                           ndef_size capacity, ndef_size *count) NDEF_ANSWERS(7, 10);
 
 /* A record that is written in steps, for a caller that does not have the whole payload, or no memory for the record.
  * It is plain numbers: it may be copied and kept. `head` is 0 once the payload is written, if it has a byte. */
@@ -286,7 +299,7 @@ typedef struct ndef_writer {
  * NDEF_OK: the writer holds it.
  * NDEF_BAD_ARGUMENT: what ndef_write_record answers so of a type, an id and a payload of these lengths. */
 uint32_t ndef_writer_begin(ndef_writer *writer, ndef_size type_length, ndef_size id_length, ndef_size payload_length,
-                           const ndef_writing *how);
+                           const ndef_writing *how) NDEF_ANSWERS(1, 5);
 
 /* Writes the next bytes of the record to the buffer, as many as there are and fit. `part` is the payload from byte
  * writer->taken on, or as much of it as is at hand: the call takes what it writes, and moves writer->taken on by
@@ -299,7 +312,7 @@ uint32_t ndef_writer_begin(ndef_writer *writer, ndef_size type_length, ndef_size
  *   ndef_writer_begin was given; the writer holds what these calls never write. */
 uint32_t ndef_writer_next(ndef_writer *writer, const uint8_t *type, ndef_size type_length, const uint8_t *id,
                           ndef_size id_length, const uint8_t *part, ndef_size part_length, uint8_t *buffer,
-                          ndef_size capacity, ndef_size *count);
+                          ndef_size capacity, ndef_size *count) NDEF_ANSWERS(1, 10);
 
 /* ---- payloads
  *
@@ -312,12 +325,13 @@ uint32_t ndef_writer_next(ndef_writer *writer, const uint8_t *type, ndef_size ty
  * NDEF_STANDARD a reserved prefix code means no prefix; without it such a code is refused.
  * NDEF_OK, NDEF_BUFFER_TOO_SMALL, NDEF_REFUSED. NDEF_BAD_ARGUMENT: an unknown flag is set. */
 uint32_t ndef_uri(const uint8_t *payload, ndef_size length, uint32_t flags, uint8_t *buffer, ndef_size capacity,
-                  ndef_size *count, ndef_checked *refusal);
+                  ndef_size *count, ndef_checked *refusal) NDEF_ANSWERS(6, 7);
 
 /* Writes the payload of a URI record (`U`) to the buffer, with the longest prefix code that fits the URI.
  * NDEF_OK, NDEF_BUFFER_TOO_SMALL. NDEF_BAD_ARGUMENT: the URI is not UTF-8, or the payload would have more than
  *   4294967295 bytes. */
-uint32_t ndef_write_uri(const uint8_t *uri, ndef_size length, uint8_t *buffer, ndef_size capacity, ndef_size *count);
+uint32_t ndef_write_uri(const uint8_t *uri, ndef_size length, uint8_t *buffer, ndef_size capacity, ndef_size *count)
+                        NDEF_ANSWERS(5);
 
 /* A text: where its parts lie in the payload. The text begins where the language code ends, also if either is empty. */
 typedef struct ndef_text_parts {
@@ -328,13 +342,14 @@ typedef struct ndef_text_parts {
 
 /* Says where the parts of the text lie in the payload of a Text record (`T`): language_at is 1.
  * NDEF_OK, NDEF_REFUSED. */
-uint32_t ndef_text(const uint8_t *payload, ndef_size length, ndef_text_parts *out, ndef_checked *refusal);
+uint32_t ndef_text(const uint8_t *payload, ndef_size length, ndef_text_parts *out, ndef_checked *refusal)
+                   NDEF_ANSWERS(3, 4);
 
 /* Writes the text of a Text record (`T`) to the buffer, in UTF-8. UTF-16 is converted, and its byte order mark is
  * skipped.
  * NDEF_OK, NDEF_BUFFER_TOO_SMALL, NDEF_REFUSED. */
 uint32_t ndef_text_in_utf8(const uint8_t *payload, ndef_size length, uint8_t *buffer, ndef_size capacity,
-                           ndef_size *count, ndef_checked *refusal);
+                           ndef_size *count, ndef_checked *refusal) NDEF_ANSWERS(5, 6);
 
 /* Writes the payload of a Text record (`T`) to the buffer. The text is given in UTF-8. Flags: NDEF_AS_UTF16 writes it
  * in UTF-16, big-endian, with a byte order mark in front.
@@ -342,7 +357,7 @@ uint32_t ndef_text_in_utf8(const uint8_t *payload, ndef_size length, uint8_t *bu
  * NDEF_BAD_ARGUMENT: the language code has more than 63 bytes or is not ASCII; the text is not UTF-8; the payload
  *   would have more than 4294967295 bytes; an unknown flag is set. */
 uint32_t ndef_write_text(const uint8_t *language, ndef_size language_length, const uint8_t *text, ndef_size text_length,
-                         uint32_t flags, uint8_t *buffer, ndef_size capacity, ndef_size *count);
+                         uint32_t flags, uint8_t *buffer, ndef_size capacity, ndef_size *count) NDEF_ANSWERS(8);
 enum { NDEF_AS_UTF16 = 1 };
 
 /* A handover carrier: where its parts lie in the payload. */
@@ -355,14 +370,16 @@ typedef struct ndef_carrier_parts {
 /* Says where the parts of the carrier lie in the payload of a Handover Carrier record (`Hc`). Reserved bits are
  * ignored.
  * NDEF_OK, NDEF_REFUSED. */
-uint32_t ndef_carrier(const uint8_t *payload, ndef_size length, ndef_carrier_parts *out, ndef_checked *refusal);
+uint32_t ndef_carrier(const uint8_t *payload, ndef_size length, ndef_carrier_parts *out, ndef_checked *refusal)
+                      NDEF_ANSWERS(3, 4);
 
 /* Writes the payload of a Handover Carrier record (`Hc`) to the buffer, with reserved bits 0.
  * NDEF_OK, NDEF_BUFFER_TOO_SMALL.
  * NDEF_BAD_ARGUMENT: the format is above 7; the type has more than 255 bytes; the payload would have more than
  *   4294967295 bytes. */
 uint32_t ndef_write_carrier(uint32_t format, const uint8_t *type, ndef_size type_length, const uint8_t *data,
-                            ndef_size data_length, uint8_t *buffer, ndef_size capacity, ndef_size *count);
+                            ndef_size data_length, uint8_t *buffer, ndef_size capacity, ndef_size *count)
+                            NDEF_ANSWERS(8);
 
 /* An alternative carrier of a handover. */
 typedef struct ndef_alternative_parts {
@@ -373,7 +390,8 @@ typedef struct ndef_alternative_parts {
 /* Gives the power state and the number of references in the payload of an Alternative Carrier record (`ac`).
  * Reserved bits are ignored. Such records are in the message within a handover request or select.
  * NDEF_OK, NDEF_REFUSED. */
-uint32_t ndef_alternative(const uint8_t *payload, ndef_size length, ndef_alternative_parts *out, ndef_checked *refusal);
+uint32_t ndef_alternative(const uint8_t *payload, ndef_size length, ndef_alternative_parts *out, ndef_checked *refusal)
+                          NDEF_ANSWERS(3, 4);
 
 /* A part of an array of bytes. An empty part, too, has the offset at which its bytes would begin. */
 typedef struct ndef_part {
@@ -383,7 +401,7 @@ typedef struct ndef_part {
 /* Says where a reference lies in the payload of an Alternative Carrier record (`ac`). Index 0 is the carrier data
  * reference, which is the id of the record that describes the carrier; the auxiliary references begin at index 1.
  * NDEF_OK. NDEF_END: there are no more references. NDEF_BAD_ARGUMENT: it is no such payload. */
-uint32_t ndef_reference(const uint8_t *payload, ndef_size length, ndef_size index, ndef_part *out);
+uint32_t ndef_reference(const uint8_t *payload, ndef_size length, ndef_size index, ndef_part *out) NDEF_ANSWERS(4);
 
 /* Writes the payload of an Alternative Carrier record (`ac`) to the buffer, with reserved bits 0. Each reference is a
  * part of `bytes`: the first part is the carrier data reference, and the others are the auxiliary references.
@@ -391,7 +409,8 @@ uint32_t ndef_reference(const uint8_t *payload, ndef_size length, ndef_size inde
  * NDEF_BAD_ARGUMENT: the power state is above 3; there are no parts, or more than 256; a part reaches beyond the
  *   bytes, or has more than 255 bytes. */
 uint32_t ndef_write_alternative(uint32_t power, const uint8_t *bytes, ndef_size length, const ndef_part *parts,
-                                ndef_size parts_count, uint8_t *buffer, ndef_size capacity, ndef_size *count);
+                                ndef_size parts_count, uint8_t *buffer, ndef_size capacity, ndef_size *count)
+                                NDEF_ANSWERS(8);
 
 /* A handover request. */
 typedef struct ndef_request_parts {
@@ -406,7 +425,7 @@ typedef struct ndef_request_parts {
  * 0x23 as the standards say; without it they are refused.
  * NDEF_OK, NDEF_REFUSED. NDEF_BAD_ARGUMENT: an unknown flag is set. */
 uint32_t ndef_request(const uint8_t *payload, ndef_size length, uint32_t flags, ndef_request_parts *out,
-                      ndef_checked *refusal);
+                      ndef_checked *refusal) NDEF_ANSWERS(4, 5);
 
 /* A handover select. */
 typedef struct ndef_select_parts {
@@ -421,7 +440,7 @@ typedef struct ndef_select_parts {
  * to ndef_record_at to reach its records. Flags: as ndef_request.
  * NDEF_OK, NDEF_REFUSED. NDEF_BAD_ARGUMENT: an unknown flag is set. */
 uint32_t ndef_select(const uint8_t *payload, ndef_size length, uint32_t flags, ndef_select_parts *out,
-                     ndef_checked *refusal);
+                     ndef_checked *refusal) NDEF_ANSWERS(4, 5);
 
 /* A link of a message: an alternative carrier of its handover, and the record that it refers to. */
 typedef struct ndef_link {
@@ -439,7 +458,7 @@ typedef struct ndef_link {
  * NDEF_BAD_ARGUMENT: the payload is neither a request nor a select, with reserved values treated as the standard
  *   says; or the bytes don't begin with whole records up to one that is the last. */
 uint32_t ndef_link_at(const uint8_t *bytes, ndef_size length, const uint8_t *payload, ndef_size payload_length,
-                      ndef_size index, ndef_link *out);
+                      ndef_size index, ndef_link *out) NDEF_ANSWERS(6);
 
 /* A smart poster. */
 typedef struct ndef_poster_parts {
@@ -452,23 +471,23 @@ typedef struct ndef_poster_parts {
  * a message; pass it to ndef_record_at to reach its records. Flags: as ndef_request.
  * NDEF_OK, NDEF_REFUSED. NDEF_BAD_ARGUMENT: an unknown flag is set. */
 uint32_t ndef_poster(const uint8_t *payload, ndef_size length, uint32_t flags, ndef_poster_parts *out,
-                     ndef_checked *refusal);
+                     ndef_checked *refusal) NDEF_ANSWERS(4, 5);
 
 /* ---- payloads of handovers, and of the records within smart posters and handovers */
 
 /* Writes the payload of an Action record (`act`) of a smart poster to the buffer, 1 byte.
  * NDEF_OK, NDEF_BUFFER_TOO_SMALL. NDEF_BAD_ARGUMENT: the action is above 255. */
-uint32_t ndef_write_action(uint32_t action, uint8_t *buffer, ndef_size capacity, ndef_size *count);
+uint32_t ndef_write_action(uint32_t action, uint8_t *buffer, ndef_size capacity, ndef_size *count) NDEF_ANSWERS(4);
 
 /* Writes the payload of a Size record (`s`) of a smart poster to the buffer, 4 bytes: the size in bytes of what the
  * URI leads to.
  * NDEF_OK, NDEF_BUFFER_TOO_SMALL. */
-uint32_t ndef_write_size(uint32_t bytes, uint8_t *buffer, ndef_size capacity, ndef_size *count);
+uint32_t ndef_write_size(uint32_t bytes, uint8_t *buffer, ndef_size capacity, ndef_size *count) NDEF_ANSWERS(4);
 
 /* Writes the payload of a Collision Resolution record (`cr`), the first record of a handover request, to the
  * buffer, 2 bytes.
  * NDEF_OK, NDEF_BUFFER_TOO_SMALL. NDEF_BAD_ARGUMENT: the number is above 65535. */
-uint32_t ndef_write_collision(uint32_t number, uint8_t *buffer, ndef_size capacity, ndef_size *count);
+uint32_t ndef_write_collision(uint32_t number, uint8_t *buffer, ndef_size capacity, ndef_size *count) NDEF_ANSWERS(4);
 
 /* A handover error. */
 typedef struct ndef_error_parts {
@@ -480,20 +499,21 @@ typedef struct ndef_error_parts {
 /* Gives the reason, the data and the number of the error in the payload of an Error record (`err`) of a handover
  * select.
  * NDEF_OK, NDEF_REFUSED. */
-uint32_t ndef_error(const uint8_t *payload, ndef_size length, ndef_error_parts *out, ndef_checked *refusal);
+uint32_t ndef_error(const uint8_t *payload, ndef_size length, ndef_error_parts *out, ndef_checked *refusal)
+                    NDEF_ANSWERS(3, 4);
 
 /* Writes the payload of an Error record (`err`) of a handover select to the buffer: its reason and its data.
  * NDEF_OK, NDEF_BUFFER_TOO_SMALL.
  * NDEF_BAD_ARGUMENT: the reason is above 255; the reason is 1 or 3 and the data don't have 1 byte; the reason is 2
  *   and the data don't have 4 bytes; the payload would have more than 4294967295 bytes. */
 uint32_t ndef_write_error(uint32_t reason, const uint8_t *data, ndef_size length, uint8_t *buffer, ndef_size capacity,
-                          ndef_size *count);
+                          ndef_size *count) NDEF_ANSWERS(6);
 
 /* Writes the same payload for the reasons 1 to 3, whose data are a number.
  * NDEF_OK, NDEF_BUFFER_TOO_SMALL.
  * NDEF_BAD_ARGUMENT: the reason is not 1, 2 or 3; the reason is 1 or 3 and the number is above 255. */
 uint32_t ndef_write_error_number(uint32_t reason, uint32_t number, uint8_t *buffer, ndef_size capacity,
-                                 ndef_size *count);
+                                 ndef_size *count) NDEF_ANSWERS(5);
 
 /* Writes the payload of a Handover Request record (`Hr`) or a Handover Select record (`Hs`) to the buffer: a version
  * byte and then the message. A select may have no message; then `length` is 0.
@@ -503,7 +523,7 @@ uint32_t ndef_write_error_number(uint32_t reason, uint32_t number, uint8_t *buff
  *   bytes are not a message of at most 65535 records, none of them chunked; the payload of an `ac`, of a `cr` in a
  *   request or of an `err` in a select is not one of its type; or the first record of a request is not a `cr`. */
 uint32_t ndef_write_handover(uint32_t handover, uint32_t major, uint32_t minor, const uint8_t *message,
-                             ndef_size length, uint8_t *buffer, ndef_size capacity, ndef_size *count);
+                             ndef_size length, uint8_t *buffer, ndef_size capacity, ndef_size *count) NDEF_ANSWERS(8);
 enum ndef_handover { NDEF_REQUEST = 0, NDEF_SELECT = 1 };
 
 /* What a field of a layout holds. */
@@ -526,20 +546,20 @@ enum ndef_layout_form {
  * chunks, so their bytes, joined, are what ndef_payload writes; a record that is not chunked has one.
  * NDEF_OK, NDEF_BUFFER_TOO_SMALL. NDEF_BAD_ARGUMENT: no record begins at `at`, or `at` is `length`. */
 uint32_t ndef_chunks(const uint8_t *bytes, ndef_size length, ndef_size at, ndef_part *parts, ndef_size capacity,
-                     ndef_size *count);
+                     ndef_size *count) NDEF_ANSWERS(6);
 
 /* Says where each reference lies in the payload of an Alternative Carrier record (`ac`): for each index what
  * ndef_reference gives, the carrier data reference first. ndef_write_alternative takes such parts.
  * NDEF_OK, NDEF_BUFFER_TOO_SMALL. NDEF_BAD_ARGUMENT: it is no such payload. */
 uint32_t ndef_references(const uint8_t *payload, ndef_size length, ndef_part *parts, ndef_size capacity,
-                         ndef_size *count);
+                         ndef_size *count) NDEF_ANSWERS(5);
 
 /* Gives the links of a message: for each index what ndef_link_at gives for the same message and payload. The payload is
  * read once. Each alternative carrier is compared with the records up to its own, so the time grows with carriers times
  * records: for bytes that you don't trust, have ndef_check take the message with limits first.
  * NDEF_OK, NDEF_BUFFER_TOO_SMALL. NDEF_BAD_ARGUMENT: as ndef_link_at answers it. */
 uint32_t ndef_links(const uint8_t *bytes, ndef_size length, const uint8_t *payload, ndef_size payload_length,
-                    ndef_link *links, ndef_size capacity, ndef_size *count);
+                    ndef_link *links, ndef_size capacity, ndef_size *count) NDEF_ANSWERS(7);
 
 /* ---- find records */
 
@@ -550,12 +570,12 @@ uint32_t ndef_links(const uint8_t *bytes, ndef_size length, const uint8_t *paylo
  *   `at` is `length`. NDEF_BAD_ARGUMENT: no record begins at `at`; or, before a record that has the type or is
  *   the last, no whole record begins where the one before it ends. */
 uint32_t ndef_find_type(const uint8_t *bytes, ndef_size length, ndef_size at, uint32_t tnf, const uint8_t *type,
-                        ndef_size type_length, ndef_record *out);
+                        ndef_size type_length, ndef_record *out) NDEF_ANSWERS(7);
 
 /* Gives the first record with an id, in the same way. No record has the empty id.
  * NDEF_OK, NDEF_END, NDEF_BAD_ARGUMENT: as ndef_find_type. */
 uint32_t ndef_find_id(const uint8_t *bytes, ndef_size length, ndef_size at, const uint8_t *id, ndef_size id_length,
-                      ndef_record *out);
+                      ndef_record *out) NDEF_ANSWERS(6);
 
 /* ---- fields
  *
@@ -572,7 +592,7 @@ uint32_t ndef_find_id(const uint8_t *bytes, ndef_size length, ndef_size at, cons
 typedef struct ndef_field {
     ndef_size at, length; /* where it begins, and its bytes */
     uint32_t depth;       /* 0 in the message itself, 1 in a message within a payload */
-    uint32_t name;        /* one of ndef_field_names (ndef_names.h), such as NDEF_FIELD_TYPE */
+    uint32_t name;        /* one of ndef_field_names, such as NDEF_FIELD_TYPE */
 } ndef_field;
 
 /* Fills the array with the fields, in order. It has `capacity` elements; *count is the number of the fields.
@@ -582,7 +602,7 @@ typedef struct ndef_field {
  *   needed, *refusal says the rest, and the array is unchanged.
  * NDEF_BAD_ARGUMENT: a limit is out of range, NDEF_OPAQUE or an unknown flag is set. */
 uint32_t ndef_fields(const uint8_t *bytes, ndef_size length, const ndef_limits *limits, ndef_field *fields,
-                     ndef_size capacity, ndef_size *count, ndef_checked *refusal);
+                     ndef_size capacity, ndef_size *count, ndef_checked *refusal) NDEF_ANSWERS(3, 6, 7);
 
 /* Gives the field to which the byte at `place` belongs. Each call looks at the message from its start.
  * NDEF_OK: `out` is that field.
@@ -590,7 +610,7 @@ uint32_t ndef_fields(const uint8_t *bytes, ndef_size length, const ndef_limits *
  *   byte or after it. After either, `out` is unchanged.
  * NDEF_BAD_ARGUMENT: as ndef_fields answers it. */
 uint32_t ndef_field_at(const uint8_t *bytes, ndef_size length, const ndef_limits *limits, ndef_size place,
-                       ndef_field *out, ndef_checked *refusal);
+                       ndef_field *out, ndef_checked *refusal) NDEF_ANSWERS(3, 5, 6);
 
 /* Steps to the next field: replaces the field by the one that holds the byte after it. Before the first one the field
  * has `at` and `length` 0. Each call looks at the message from its start, so all fields of a message take time that
@@ -599,19 +619,20 @@ uint32_t ndef_field_at(const uint8_t *bytes, ndef_size length, const ndef_limits
  *   byte. After either, the field is unchanged.
  * NDEF_BAD_ARGUMENT: as ndef_fields answers it. */
 uint32_t ndef_next_field(const uint8_t *bytes, ndef_size length, const ndef_limits *limits, ndef_field *field,
-                         ndef_checked *refusal);
+                         ndef_checked *refusal) NDEF_ANSWERS(3, 4, 5);
 
 /* Fills the array with the fields of a payload, its chunks joined, of a record with this type name format (an ndef_tnf)
  * and this type: as ndef_fields does, but offsets count from the first byte of the payload. Whatever bytes it has, each
  * of them belongs to a field; where it is cut, bytes of the last field are missing.
  * NDEF_OK, NDEF_BUFFER_TOO_SMALL. NDEF_BAD_ARGUMENT: the type name format is above 5. */
 uint32_t ndef_payload_fields(uint32_t tnf, const uint8_t *type, ndef_size type_length, const uint8_t *payload,
-                             ndef_size length, ndef_field *fields, ndef_size capacity, ndef_size *count);
+                             ndef_size length, ndef_field *fields, ndef_size capacity, ndef_size *count)
+                             NDEF_ANSWERS(8);
 
 /* Writes the name of a field to the buffer, in ASCII, at most 31 bytes: such as "PAYLOAD_LENGTH" for
  * NDEF_FIELD_PAYLOAD_LENGTH.
  * NDEF_OK, NDEF_BUFFER_TOO_SMALL. NDEF_BAD_ARGUMENT: there is no such name. */
-uint32_t ndef_field_name(uint32_t name, uint8_t *buffer, ndef_size capacity, ndef_size *count);
+uint32_t ndef_field_name(uint32_t name, uint8_t *buffer, ndef_size capacity, ndef_size *count) NDEF_ANSWERS(4);
 
 /* ---- what is strange in a message that is accepted */
 
@@ -620,7 +641,7 @@ uint32_t ndef_field_name(uint32_t name, uint8_t *buffer, ndef_size capacity, nde
  * NDEF_OK, NDEF_BUFFER_TOO_SMALL. NDEF_END: nothing is known to be strange. NDEF_BAD_ARGUMENT: there is no such name.
  *   After these two the buffer and *count are unchanged. */
 uint32_t ndef_field_warning(uint32_t name, const uint8_t *octets, ndef_size octets_length, uint8_t *buffer,
-                            ndef_size capacity, ndef_size *count);
+                            ndef_size capacity, ndef_size *count) NDEF_ANSWERS(6);
 
 /* Writes what is strange in a record beside the others to the buffer, as ndef_field_warning does: two titles in one
  * language, a request without an alternative carrier or with a second collision record, a reference to no record, a
@@ -628,7 +649,7 @@ uint32_t ndef_field_warning(uint32_t name, const uint8_t *octets, ndef_size octe
  * ndef_check accepts; the record with `index` 0 is its first. Messages of more than 64 records are not looked through.
  * NDEF_OK, NDEF_BUFFER_TOO_SMALL. NDEF_END: nothing is known to be strange, or there is no such record. */
 uint32_t ndef_record_warning(const uint8_t *bytes, ndef_size length, ndef_size index, uint8_t *buffer,
-                             ndef_size capacity, ndef_size *count);
+                             ndef_size capacity, ndef_size *count) NDEF_ANSWERS(6);
 
 /* ---- names */
 
@@ -639,7 +660,7 @@ uint32_t ndef_version(void);
 /* Writes the name of an ndef_status to the buffer, in ASCII, at most 14 bytes: such as "BufferTooSmall" for
  * NDEF_BUFFER_TOO_SMALL.
  * NDEF_OK, NDEF_BUFFER_TOO_SMALL. NDEF_BAD_ARGUMENT: there is no such status. */
-uint32_t ndef_status_name(uint32_t status, uint8_t *buffer, ndef_size capacity, ndef_size *count);
+uint32_t ndef_status_name(uint32_t status, uint8_t *buffer, ndef_size capacity, ndef_size *count) NDEF_ANSWERS(4);
 
 /* ---- URIs where they lie */
 
@@ -653,12 +674,12 @@ typedef struct ndef_uri_parts {
  * prefix of the code and then the rest. Flags: as ndef_uri.
  * NDEF_OK, NDEF_REFUSED. NDEF_BAD_ARGUMENT: an unknown flag is set. */
 uint32_t ndef_split_uri(const uint8_t *payload, ndef_size length, uint32_t flags, ndef_uri_parts *out,
-                        ndef_checked *refusal);
+                        ndef_checked *refusal) NDEF_ANSWERS(4, 5);
 
 /* Writes the prefix of a code to the buffer, in ASCII, at most 26 bytes. Code 0 and the reserved codes, 36 to 255, have
  * the empty prefix.
  * NDEF_OK, NDEF_BUFFER_TOO_SMALL. NDEF_BAD_ARGUMENT: the code is above 255. */
-uint32_t ndef_uri_prefix(uint32_t code, uint8_t *buffer, ndef_size capacity, ndef_size *count);
+uint32_t ndef_uri_prefix(uint32_t code, uint8_t *buffer, ndef_size capacity, ndef_size *count) NDEF_ANSWERS(4);
 
 /* ---- build a message */
 
@@ -680,7 +701,7 @@ typedef struct ndef_message_builder {
  *   it has 4294967295 records; or its length is 0 and the other members are not. */
 uint32_t ndef_append(ndef_message_builder *builder, const uint8_t *type, ndef_size type_length, const uint8_t *id,
                      ndef_size id_length, const uint8_t *payload, ndef_size payload_length, const ndef_writing *how,
-                     uint8_t *buffer, ndef_size capacity, ndef_size *count);
+                     uint8_t *buffer, ndef_size capacity, ndef_size *count) NDEF_ANSWERS(1, 8, 11);
 
 /* Appends the record of a text (`T`), whose payload is written where it belongs, so it needs no buffer of its own. The
  * text is given in UTF-8. Flags: as ndef_write_text. The record is written in one chunk, with no id where the id has
@@ -690,14 +711,16 @@ uint32_t ndef_append(ndef_message_builder *builder, const uint8_t *type, ndef_si
  *   buffer, as with ndef_append. */
 uint32_t ndef_append_text(ndef_message_builder *builder, const uint8_t *id, ndef_size id_length,
                           const uint8_t *language, ndef_size language_length, const uint8_t *text,
-                          ndef_size text_length, uint32_t flags, uint8_t *buffer, ndef_size capacity, ndef_size *count);
+                          ndef_size text_length, uint32_t flags, uint8_t *buffer, ndef_size capacity, ndef_size *count)
+                          NDEF_ANSWERS(1, 11);
 
 /* Appends the record of a URI (`U`) in the same way.
  * NDEF_OK. NDEF_BUFFER_TOO_SMALL: the buffer and `builder` are unchanged.
  * NDEF_BAD_ARGUMENT: what ndef_write_uri answers so; the id has more than 255 bytes; or `builder` does not fit the
  *   buffer, as with ndef_append. */
 uint32_t ndef_append_uri(ndef_message_builder *builder, const uint8_t *id, ndef_size id_length, const uint8_t *uri,
-                         ndef_size uri_length, uint8_t *buffer, ndef_size capacity, ndef_size *count);
+                         ndef_size uri_length, uint8_t *buffer, ndef_size capacity, ndef_size *count)
+                         NDEF_ANSWERS(1, 8);
 
 /* ---- titles, media types and icons of smart posters
  *
@@ -709,16 +732,16 @@ uint32_t ndef_append_uri(ndef_message_builder *builder, const uint8_t *id, ndef_
  * NDEF_OK, NDEF_BUFFER_TOO_SMALL. NDEF_BAD_ARGUMENT: it is no such payload; ndef_poster with NDEF_STANDARD says where
  *   and why. */
 uint32_t ndef_poster_titles(const uint8_t *payload, ndef_size length, ndef_text_parts *titles, ndef_size capacity,
-                            ndef_size *count);
+                            ndef_size *count) NDEF_ANSWERS(5);
 
 /* Gives the first title in a language, such as "en". Upper and lower case are the same in the language code.
  * NDEF_OK. NDEF_END: the poster has no title in the language. NDEF_BAD_ARGUMENT: it is no such payload. */
 uint32_t ndef_title(const uint8_t *payload, ndef_size length, const uint8_t *language, ndef_size language_length,
-                    ndef_text_parts *out);
+                    ndef_text_parts *out) NDEF_ANSWERS(5);
 
 /* Says where the media type (`t`) of what the URI leads to lies, such as "text/html", in UTF-8; of several the first.
  * NDEF_OK. NDEF_END: the poster has none. NDEF_BAD_ARGUMENT: it is no such payload. */
-uint32_t ndef_poster_media_type(const uint8_t *payload, ndef_size length, ndef_part *out);
+uint32_t ndef_poster_media_type(const uint8_t *payload, ndef_size length, ndef_part *out) NDEF_ANSWERS(3);
 
 /* Where an icon of a smart poster lies: its type, and after the id of its record the data. */
 typedef struct ndef_icon {
@@ -732,7 +755,7 @@ typedef struct ndef_icon {
  * use the data.
  * NDEF_OK, NDEF_BUFFER_TOO_SMALL. NDEF_BAD_ARGUMENT: it is no such payload. */
 uint32_t ndef_poster_icons(const uint8_t *payload, ndef_size length, ndef_icon *icons, ndef_size capacity,
-                           ndef_size *count);
+                           ndef_size *count) NDEF_ANSWERS(5);
 
 /* ---- a message written again */
 
@@ -744,7 +767,7 @@ uint32_t ndef_poster_icons(const uint8_t *payload, ndef_size length, ndef_icon *
  *   the records can't be written so, as ndef_write_record would refuse it; or the length would need more than 64
  *   bits. */
 uint32_t ndef_normalize(const uint8_t *bytes, ndef_size length, uint32_t flags, uint8_t *buffer, ndef_size capacity,
-                        ndef_size *count);
+                        ndef_size *count) NDEF_ANSWERS(6);
 
 /* ---- smart posters written in one call */
 
@@ -784,7 +807,8 @@ typedef struct ndef_poster_writing {
  *   have more than 4294967295 bytes. */
 uint32_t ndef_write_poster(const uint8_t *bytes, ndef_size length, const ndef_poster_writing *how,
                            const ndef_title_writing *titles, ndef_size titles_count, const ndef_icon_writing *icons,
-                           ndef_size icons_count, uint8_t *buffer, ndef_size capacity, ndef_size *count);
+                           ndef_size icons_count, uint8_t *buffer, ndef_size capacity, ndef_size *count)
+                           NDEF_ANSWERS(3, 10);
 
 /* ---- handovers written in one call */
 
@@ -808,7 +832,7 @@ typedef struct ndef_alternative_writing {
 uint32_t ndef_write_request(uint32_t minor, uint32_t collision, const uint8_t *bytes, ndef_size length,
                             const ndef_part *references, ndef_size references_count,
                             const ndef_alternative_writing *alternatives, ndef_size alternatives_count, uint8_t *buffer,
-                            ndef_size capacity, ndef_size *count);
+                            ndef_size capacity, ndef_size *count) NDEF_ANSWERS(11);
 
 /* What else a handover select that is written says. Where has_error is 0, `data` and `reason` don't matter. */
 typedef struct ndef_select_writing {
@@ -827,7 +851,7 @@ typedef struct ndef_select_writing {
 uint32_t ndef_write_select(const ndef_select_writing *how, const uint8_t *bytes, ndef_size length,
                            const ndef_part *references, ndef_size references_count,
                            const ndef_alternative_writing *alternatives, ndef_size alternatives_count, uint8_t *buffer,
-                           ndef_size capacity, ndef_size *count);
+                           ndef_size capacity, ndef_size *count) NDEF_ANSWERS(1, 10);
 
 /* ---- a message and all its records, in one call */
 
@@ -863,7 +887,7 @@ typedef struct ndef_item {
  * NDEF_BAD_ARGUMENT: a limit is out of range, an unknown flag is set, or `length` is above 4294967295; nothing is
  *   written. */
 uint32_t ndef_items(const uint8_t *bytes, ndef_size length, const ndef_limits *limits, ndef_checked *out,
-                    ndef_item *items, ndef_size capacity);
+                    ndef_item *items, ndef_size capacity) NDEF_ANSWERS(3, 4);
 
 /* ---- payloads of a layout that a program gives */
 
@@ -891,7 +915,7 @@ typedef struct ndef_laid_out {
  * NDEF_BAD_ARGUMENT: there are more than 255 fields; the form of a field is unknown; the bounds of an octet are in
  *   the wrong order or above 255; or a field follows a text or any octets. Nothing is written. */
 uint32_t ndef_check_layout(const uint8_t *payload, ndef_size length, const ndef_layout_field *fields,
-                           ndef_size fields_count, ndef_laid_out *out);
+                           ndef_size fields_count, ndef_laid_out *out) NDEF_ANSWERS(5);
 
 #include "ndef_names.h"
 

@@ -9,7 +9,7 @@
 /// type. Messages, records and payloads are views of bytes that the caller keeps. What can fail returns a result.
 /// Nothing allocates memory except the functions that return a std::string or a std::vector, links and fields that are
 /// not given an array, and what ndef_building.hpp has: builders of posters and handovers, messages that own their bytes,
-/// filters of records. Nothing throws, except std::bad_alloc where such memory is refused.
+/// filters of records. Nothing throws, except std::bad_alloc where such memory is refused, and `value()` of a result.
 ///
 /// The rules at the head of ndef.h are kept as long as the memory of each view lives and stays as it is, and a buffer
 /// holds no bytes that are still needed.

@@ -8,6 +8,8 @@
 #include <cassert>
 #include <cstddef>
 #include <cstdint>
+#include <cstdlib>
+#include <exception>
 #include <iterator>
 #include <optional>
 #include <string>
@@ -76,7 +78,24 @@ struct error {
     argument which = argument::unknown; ///< with NDEF_BAD_ARGUMENT of a call that writes a message, which argument
 
     /// With NDEF_REFUSED, what the reason means, in a sentence; else "". ndef::why says what was wanted, of the bytes.
-    constexpr std::string_view sentence() const noexcept { return ndef::sentence(why); }
+    [[nodiscard]] constexpr std::string_view sentence() const noexcept { return ndef::sentence(why); }
+
+    friend constexpr bool operator==(const error &left, const error &right) noexcept {
+        return left.what == right.what && left.why == right.why && left.place == right.place && left.needed == right.needed &&
+            left.record == right.record && left.which == right.which;
+    }
+    friend constexpr bool operator!=(const error &left, const error &right) noexcept { return !(left == right); }
+};
+
+/// What `value()` of a result throws where there is none.
+class bad_result_access : public std::exception {
+public:
+    explicit bad_result_access(const ndef::error &of) noexcept : why(of) {}
+    const char *what() const noexcept override { return "an ndef::result has no value"; }
+    [[nodiscard]] const ndef::error &error() const noexcept { return why; }
+
+private:
+    ndef::error why;
 };
 
 /// A value, or the error that says why there is none. It is used as std::expected of C++23 is, but `->` isn't there for a
@@ -100,11 +119,15 @@ public:
         static_assert(std::is_trivially_copyable_v<T>, "keep the result as long as what is seen by it");
         return value_pointer();
     }
+    /// The same; bad_result_access where there is none, or where the compiler has no exceptions, std::abort.
+    constexpr const T &value() const & { return has_value() ? **this : (fail(), **this); }
+    constexpr T &value() & { return has_value() ? **this : (fail(), **this); }
+    constexpr T &&value() && { return has_value() ? *std::move(*this) : (fail(), *std::move(*this)); }
     constexpr T value_or(T other) const & { return has_value() ? **this : std::move(other); }
     constexpr T value_or(T other) && { return has_value() ? *std::move(*this) : std::move(other); }
 
     /// The error. There must be one: ask first.
-    constexpr const ndef::error &error() const noexcept {
+    [[nodiscard]] constexpr const ndef::error &error() const noexcept {
         assert(!has_value());
         return *std::get_if<1>(&held);
     }
@@ -137,14 +160,41 @@ public:
         return has_value() ? std::move(*this) : std::forward<F>(next)(error());
     }
 
+    /// The value; or the error that a function makes of the error.
+    template <class F> constexpr result transform_error(F &&next) const & {
+        return has_value() ? *this : result(std::forward<F>(next)(error()));
+    }
+    template <class F> constexpr result transform_error(F &&next) && {
+        return has_value() ? std::move(*this) : result(std::forward<F>(next)(error()));
+    }
+
 private:
-    constexpr const T *value_pointer() const noexcept {
+    [[noreturn]] void fail() const {
+#ifdef __cpp_exceptions
+        throw bad_result_access(error());
+#else
+        std::abort();
+#endif
+    }
+
+    [[nodiscard]] constexpr const T *value_pointer() const noexcept {
         assert(has_value());
         return std::get_if<0>(&held);
     }
 
     std::variant<T, ndef::error> held;
 };
+
+/// Whether two results have equal values, or equal errors.
+template <class T, class Other>
+constexpr auto operator==(const result<T> &left, const result<Other> &right) -> decltype(static_cast<bool>(*left == *right)) {
+    if (left.has_value() != right.has_value()) return false;
+    return left ? static_cast<bool>(*left == *right) : left.error() == right.error();
+}
+template <class T, class Other>
+constexpr auto operator!=(const result<T> &left, const result<Other> &right) -> decltype(left == right) {
+    return !(left == right);
+}
 
 // ---- memory
 
@@ -178,28 +228,28 @@ public:
     /// It isn't clear whether the NUL of a literal counts: give a std::string_view.
     template <std::size_t Count> bytes(const char (&)[Count]) = delete;
 
-    constexpr const std::uint8_t *data() const noexcept { return first; }
-    constexpr std::size_t size() const noexcept { return length; }
-    constexpr bool empty() const noexcept { return length == 0; }
-    constexpr const std::uint8_t *begin() const noexcept { return first; }
-    constexpr const std::uint8_t *end() const noexcept { return first + length; }
+    [[nodiscard]] constexpr const std::uint8_t *data() const noexcept { return first; }
+    [[nodiscard]] constexpr std::size_t size() const noexcept { return length; }
+    [[nodiscard]] constexpr bool empty() const noexcept { return length == 0; }
+    [[nodiscard]] constexpr const std::uint8_t *begin() const noexcept { return first; }
+    [[nodiscard]] constexpr const std::uint8_t *end() const noexcept { return first + length; }
     constexpr std::uint8_t operator[](std::size_t index) const noexcept {
         assert(index < length);
         return first[index];
     }
 
     /// The bytes from an offset on; none if the offset is beyond the end.
-    constexpr bytes from(ndef_size at) const noexcept { return part(at, length); }
+    [[nodiscard]] constexpr bytes from(ndef_size at) const noexcept { return part(at, length); }
 
     /// `count` bytes from an offset on, or as many of them as there are.
-    constexpr bytes part(ndef_size at, ndef_size count) const noexcept {
+    [[nodiscard]] constexpr bytes part(ndef_size at, ndef_size count) const noexcept {
         if (at > length) return {};
         const std::size_t place = static_cast<std::size_t>(at), rest = length - place;
         return {first + place, count < rest ? static_cast<std::size_t>(count) : rest};
     }
 
     /// The same bytes as characters.
-    std::string_view text() const noexcept { return {reinterpret_cast<const char *>(first), length}; }
+    [[nodiscard]] std::string_view text() const noexcept { return {reinterpret_cast<const char *>(first), length}; }
 
     friend bool operator==(bytes left, bytes right) noexcept { return left.text() == right.text(); }
     friend bool operator!=(bytes left, bytes right) noexcept { return !(left == right); }
@@ -231,8 +281,8 @@ public:
                                                                   std::data(std::declval<Container &>())))>>>
     explicit buffer(Container &of) noexcept : first(detail::octets(std::data(of))), length(std::size(of)) {}
 
-    constexpr std::uint8_t *data() const noexcept { return first; }
-    constexpr std::size_t size() const noexcept { return length; }
+    [[nodiscard]] constexpr std::uint8_t *data() const noexcept { return first; }
+    [[nodiscard]] constexpr std::size_t size() const noexcept { return length; }
 
     /// Takes bytes from the front of the buffer; all of them if there are fewer.
     constexpr bytes take(ndef_size count) noexcept {
@@ -305,7 +355,7 @@ template <class Element, class Call, class... Words> std::vector<Element> all_of
 template <class Parts> class payload_view {
 public:
     /// The payload itself.
-    bytes payload() const noexcept { return whole; }
+    [[nodiscard]] bytes payload() const noexcept { return whole; }
 
 protected:
     /// Reads a payload by a call of ndef.h: call(payload, length, words.., parts, why).
@@ -313,16 +363,16 @@ protected:
     static result<View> read_by(bytes payload, Call call, Words... words) noexcept {
         View found;
         ndef_checked why = {};
-        const std::uint32_t answer = call(payload.data(), payload.size(), words..., &found.told, &why);
+        const std::uint32_t answer = call(payload.data(), payload.size(), words..., &found.raw, &why);
         if (answer != NDEF_OK) return failure(answer, why);
         found.whole = payload;
         return found;
     }
 
-    bytes part(ndef_size at, ndef_size length) const noexcept { return whole.part(at, length); }
+    [[nodiscard]] bytes part(ndef_size at, ndef_size length) const noexcept { return whole.part(at, length); }
 
     bytes whole;
-    Parts told = {};
+    Parts raw = {};
 };
 
 /// No more values follow.

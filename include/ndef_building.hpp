@@ -17,16 +17,16 @@ namespace ndef {
 
 namespace detail {
 /// The bytes of parts, one after another, for calls that take offsets.
-class shelf {
+class arena {
 public:
-    /// Puts bytes on the shelf, and returns where they lie.
+    /// Puts bytes into the arena, and returns where they lie.
     ndef_part put(bytes part) {
         const ndef_part place = {held.size(), part.size()};
         held.insert(held.end(), part.begin(), part.end());
         return place;
     }
     ndef_part put(std::string_view part) { return put(bytes(part)); }
-    bytes all() const noexcept { return held; }
+    [[nodiscard]] bytes all() const noexcept { return held; }
 
 private:
     std::vector<std::uint8_t> held;
@@ -52,11 +52,11 @@ template <class Write> result<std::vector<std::uint8_t>> in_memory(Write write) 
 ///     auto payload = ndef::poster_builder("https://example.com").title("en", "Hello").payload();
 class poster_builder {
 public:
-    explicit poster_builder(std::string_view uri) { how.uri = shelf.put(uri); }
+    explicit poster_builder(std::string_view uri) { how.uri = arena.put(uri); }
 
     /// Adds a title. Give each title a different language.
     poster_builder &title(std::string_view language, std::string_view text, encoding in = encoding::utf8) {
-        titles.push_back({shelf.put(language), shelf.put(text), in == encoding::utf16 ? 1u : 0u});
+        titles.push_back({arena.put(language), arena.put(text), in == encoding::utf16 ? 1u : 0u});
         return *this;
     }
     poster_builder &action(ndef::action what) {
@@ -73,25 +73,25 @@ public:
     /// The media type of what the URI leads to.
     poster_builder &media_type(std::string_view type) {
         how.has_media_type = 1;
-        how.media_type = shelf.put(type);
+        how.media_type = arena.put(type);
         return *this;
     }
     /// Adds an icon, of a media type that begins with "image/" or "video/".
     poster_builder &icon(std::string_view type, bytes data) {
-        icons.push_back({shelf.put(type), shelf.put(data)});
+        icons.push_back({arena.put(type), arena.put(data)});
         return *this;
     }
 
     /// Writes the payload, as ndef_write_poster does.
     result<bytes> write(buffer &to) const noexcept {
-        return write_poster(to, shelf.all(), how, titles.data(), titles.size(), icons.data(), icons.size());
+        return write_poster(to, arena.all(), how, titles.data(), titles.size(), icons.data(), icons.size());
     }
     result<std::vector<std::uint8_t>> payload() const {
         return detail::in_memory([this](buffer &to) { return write(to); });
     }
 
 private:
-    detail::shelf shelf;
+    detail::arena arena;
     ndef_poster_writing how = {};
     std::vector<ndef_title_writing> titles;
     std::vector<ndef_icon_writing> icons;
@@ -103,8 +103,8 @@ public:
     /// Adds an alternative carrier: its power state, the id of the record that describes it, and auxiliary references.
     Builder &carrier(power state, std::string_view reference, const std::vector<std::string_view> &auxiliary = {}) {
         const ndef_size first = references.size();
-        references.push_back(shelf.put(reference));
-        for (const std::string_view other : auxiliary) references.push_back(shelf.put(other));
+        references.push_back(arena.put(reference));
+        for (const std::string_view other : auxiliary) references.push_back(arena.put(other));
         alternatives.push_back({first, references.size() - first, static_cast<std::uint32_t>(state)});
         return static_cast<Builder &>(*this);
     }
@@ -113,7 +113,7 @@ public:
     }
 
 protected:
-    detail::shelf shelf;
+    detail::arena arena;
     std::vector<ndef_part> references;
     std::vector<ndef_alternative_writing> alternatives;
 };
@@ -126,7 +126,7 @@ public:
 
     /// Writes the payload, as ndef_write_request does.
     result<bytes> write(buffer &to) const noexcept {
-        return write_request(to, minor, number, shelf.all(), references.data(), references.size(), alternatives.data(),
+        return write_request(to, minor, number, arena.all(), references.data(), references.size(), alternatives.data(),
                              alternatives.size());
     }
 
@@ -143,13 +143,13 @@ public:
     select_builder &error(std::uint32_t error_reason, bytes data) {
         how.has_error = 1;
         how.reason = error_reason;
-        how.data = shelf.put(data);
+        how.data = arena.put(data);
         return *this;
     }
 
     /// Writes the payload, as ndef_write_select does.
     result<bytes> write(buffer &to) const noexcept {
-        return write_select(to, how, shelf.all(), references.data(), references.size(), alternatives.data(),
+        return write_select(to, how, arena.all(), references.data(), references.size(), alternatives.data(),
                             alternatives.size());
     }
 
@@ -187,7 +187,7 @@ public:
     message view() && = delete;
     bytes octets() && = delete;
     iterator begin() && = delete;
-    iterator end() const noexcept { return {}; }
+    [[nodiscard]] iterator end() const noexcept { return {}; }
     friend bool operator==(const owned_message &left, const owned_message &right) noexcept {
         return left.held == right.held;
     }
@@ -225,7 +225,7 @@ public:
         return *this;
     }
 
-    bool matches(const message &of) const {
+    [[nodiscard]] bool matches(const message &of) const {
         std::vector<std::size_t> counts(wanted.size(), 0);
         std::size_t from = 0;
         for (const ndef::record &one : of) {
@@ -247,7 +247,7 @@ private:
     };
 
     /// The first of the types from one on that a record has and that takes one record more, or their number.
-    std::size_t index_of(const ndef::record &one, std::size_t from, const std::vector<std::size_t> &counts) const {
+    [[nodiscard]] std::size_t index_of(const ndef::record &one, std::size_t from, const std::vector<std::size_t> &counts) const {
         std::size_t index = from;
         while (index < wanted.size() &&
                !(one.is(wanted[index].format, wanted[index].type) && counts[index] < wanted[index].most))
@@ -267,13 +267,13 @@ constexpr std::string_view to_string(argument value) noexcept {
     return names[static_cast<std::size_t>(value)];
 }
 
-/// Prints an error: "refused at 4: 15 TextBit" as the commands do, or the name of the status; of a record that isn't written
-/// "record 1: refused at 4: 19 UriCode" or "record 0: BadArgument: id".
+/// Prints an error: "refused at 4: TextBit: " and what the reason means, or the name of the status; of a record that isn't
+/// written "record 1: refused at 4: .." or "record 0: BadArgument: id".
 inline std::string to_string(const error &why) {
     std::string text = why.record ? "record " + std::to_string(*why.record) + ": " : std::string();
     if (why.what == NDEF_REFUSED)
-        return text + "refused at " + std::to_string(why.place) + ": " + std::to_string(static_cast<std::uint32_t>(why.why)) +
-            " " + std::string(to_string(why.why));
+        return text + "refused at " + std::to_string(why.place) + ": " + std::string(to_string(why.why)) + ": " +
+            std::string(why.sentence());
     text += to_string(why.what);
     return why.which == argument::unknown ? text : text + ": " + std::string(to_string(why.which));
 }

@@ -40,13 +40,13 @@ inline std::optional<std::string> field_warning(const field &of) {
 /// are refused, those before the refused one. Payloads are looked into: with NDEF_OPAQUE there are no fields.
 class fields {
     /// The fields that lie in an array.
-    struct told_fields {
-        field at(std::size_t index) const noexcept {
+    struct field_view {
+    [[nodiscard]]     field at(std::size_t index) const noexcept {
             const ndef_field &one = first[index];
             return {whole.part(one.at, one.length), static_cast<std::size_t>(one.at), one.depth,
                     static_cast<field_name>(one.name)};
         }
-        bool look(ndef_size &index, field &found) const noexcept {
+    [[nodiscard]]     bool look(ndef_size &index, field &found) const noexcept {
             if (index >= count) return false;
             found = at(static_cast<std::size_t>(index++));
             return true;
@@ -58,15 +58,15 @@ class fields {
     };
 
 public:
-    using iterator = detail::iterator_of<told_fields, field>;
+    using iterator = detail::iterator_of<field_view, field>;
     fields() noexcept = default;
 
     /// The fields, in memory that they own.
     explicit fields(kept of NDEF_LIFETIMEBOUND, const ndef_limits &within = limits()) {
         ndef_size count = 0;
-        if (tell(nullptr, 0, of, within, &count) != NDEF_BUFFER_TOO_SMALL) return;
+        if (fill(nullptr, 0, of, within, &count) != NDEF_BUFFER_TOO_SMALL) return;
         own.resize(static_cast<std::size_t>(count));
-        tell(own.data(), own.size(), of, within, &count);
+        fill(own.data(), own.size(), of, within, &count);
     }
 
     /// The same in an array of the caller. NDEF_BUFFER_TOO_SMALL says how many elements it must have; NDEF_BAD_ARGUMENT: a limit is
@@ -74,26 +74,26 @@ public:
     static result<fields> in(ndef_field *array, std::size_t size, kept of, const ndef_limits &within = limits()) {
         fields found;
         ndef_size count = 0;
-        const std::uint32_t answer = found.tell(array, size, of, within, &count);
+        const std::uint32_t answer = found.fill(array, size, of, within, &count);
         if (answer != NDEF_OK && answer != NDEF_REFUSED) return detail::failure(answer, {}, count);
-        found.told.first = array;
-        found.told.count = static_cast<std::size_t>(count);
+        found.view.first = array;
+        found.view.count = static_cast<std::size_t>(count);
         return found;
     }
 
     /// Iterators are valid as long as these fields and the array exist. A copy has memory of its own, or the same array.
     iterator begin() const & noexcept NDEF_LIFETIMEBOUND { return iterator(range()); }
     iterator begin() && = delete;
-    iterator end() const noexcept { return {}; }
-    std::size_t size() const noexcept { return range().count; }
+    [[nodiscard]] iterator end() const noexcept { return {}; }
+    [[nodiscard]] std::size_t size() const noexcept { return range().count; }
 
     /// Why no field follows the last one: NDEF_END after a message, NDEF_REFUSED with the offset and the reason, or
     /// NDEF_BAD_ARGUMENT.
-    const error &after() const noexcept { return end_of; }
+    [[nodiscard]] const error &after() const noexcept { return end_of; }
 
     /// The field to which the byte at an offset belongs; where there is none, what `after` says.
     result<field> at(ndef_size place) const noexcept {
-        const told_fields all = range();
+        const field_view all = range();
         const auto is_after = [](ndef_size wanted, const ndef_field &one) { return wanted < one.at; };
         const ndef_field *next = std::upper_bound(all.first, all.first + all.count, place, is_after);
         if (next == all.first || place - (next - 1)->at >= (next - 1)->length) return end_of;
@@ -101,18 +101,18 @@ public:
     }
 
 private:
-    std::uint32_t tell(ndef_field *array, std::size_t size, bytes of, const ndef_limits &within, ndef_size *count) noexcept {
+    std::uint32_t fill(ndef_field *array, std::size_t size, bytes of, const ndef_limits &within, ndef_size *count) noexcept {
         ndef_checked why = {};
         const std::uint32_t answer = ndef_fields(of.data(), of.size(), &within, array, size, count, &why);
-        told = {of, nullptr, 0};
+        view = {of, nullptr, 0};
         end_of = detail::failure(answer == NDEF_OK ? static_cast<std::uint32_t>(NDEF_END) : answer, why);
         return answer;
     }
 
     /// The fields where they lie now: those in memory that it owns move with it.
-    told_fields range() const noexcept { return told.first ? told : told_fields{told.whole, own.data(), own.size()}; }
+    [[nodiscard]] field_view range() const noexcept { return view.first ? view : field_view{view.whole, own.data(), own.size()}; }
 
-    told_fields told;
+    field_view view;
     std::vector<ndef_field> own;
     error end_of = detail::failure(NDEF_END);
 };

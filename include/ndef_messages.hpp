@@ -5,6 +5,10 @@
 
 #include "ndef_answers.hpp"
 
+#if __cplusplus >= 202002L && __has_include(<ranges>)
+#include <ranges>
+#endif
+
 namespace ndef {
 
 // ---- messages
@@ -29,25 +33,25 @@ public:
 
     /// The record that begins at an offset of some bytes, as ndef_record_at gives it.
     static result<record> at(kept message NDEF_LIFETIMEBOUND, ndef_size place) noexcept {
-        return told_by(ndef_record_at, message, place);
+        return from_call(ndef_record_at, message, place);
     }
 
-    ndef::tnf format() const noexcept { return static_cast<ndef::tnf>(told.tnf); }
-    std::string_view type() const noexcept { return whole.part(told.type_at, told.type_length).text(); }
-    std::string_view id() const noexcept { return whole.part(told.id_at, told.id_length).text(); }
+    [[nodiscard]] ndef::tnf format() const noexcept { return static_cast<ndef::tnf>(raw.tnf); }
+    [[nodiscard]] std::string_view type() const noexcept { return whole.part(raw.type_at, raw.type_length).text(); }
+    [[nodiscard]] std::string_view id() const noexcept { return whole.part(raw.id_at, raw.id_length).text(); }
 
     /// Whether the record has a type of a format; without a format, one that the NFC Forum defines.
-    bool is(ndef::tnf wanted, std::string_view name) const noexcept { return format() == wanted && type() == name; }
-    bool is(std::string_view name) const noexcept { return is(NDEF_TNF_WELL_KNOWN, name); }
+    [[nodiscard]] bool is(ndef::tnf wanted, std::string_view name) const noexcept { return format() == wanted && type() == name; }
+    [[nodiscard]] bool is(std::string_view name) const noexcept { return is(NDEF_TNF_WELL_KNOWN, name); }
 
     /// What the payload is, as ndef_kind gives it. For a record of the message within a payload, say of which kind that is.
-    ndef::kind kind(ndef::kind within = NDEF_KIND_OTHER) const noexcept {
-        return static_cast<ndef::kind>(ndef_kind(whole.data(), whole.size(), &told, within));
+    [[nodiscard]] ndef::kind kind(ndef::kind within = NDEF_KIND_OTHER) const noexcept {
+        return static_cast<ndef::kind>(ndef_kind(whole.data(), whole.size(), &raw, within));
     }
 
     /// The payload: in place if the record has one chunk, otherwise joined in the buffer.
     result<bytes> payload(buffer &joined) const noexcept {
-        if (told.chunks == 1) return whole.part(told.payload_at, told.payload_length);
+        if (raw.chunks == 1) return whole.part(raw.payload_at, raw.payload_length);
         return detail::written(joined, [this](auto... words) { return join(words...); });
     }
 
@@ -58,7 +62,7 @@ public:
     }
 
     /// The payload as a string.
-    std::string payload_string() const {
+    [[nodiscard]] std::string payload_string() const {
         return detail::as_string([this](auto... words) { return join(words...); });
     }
 
@@ -73,32 +77,32 @@ public:
         return as<View>(none, how);
     }
 
-    ndef_size payload_size() const noexcept { return told.payload_length; }
-    ndef_size chunks() const noexcept { return told.chunks; }
-    bool is_last() const noexcept { return told.last != 0; }
+    [[nodiscard]] ndef_size payload_size() const noexcept { return raw.payload_length; }
+    [[nodiscard]] ndef_size chunks() const noexcept { return raw.chunks; }
+    [[nodiscard]] bool is_last() const noexcept { return raw.last != 0; }
 
     /// Where the record begins in the message, and where its parts lie.
-    ndef_size place() const noexcept { return told.at; }
-    const ndef_record &parts() const noexcept { return told; }
+    [[nodiscard]] ndef_size place() const noexcept { return raw.at; }
+    [[nodiscard]] const ndef_record &parts() const noexcept { return raw; }
 
 private:
     friend class message;
     /// The record that a call of ndef.h gives: call(message, length, words.., record).
     template <class Call, class... Words>
-    static result<record> told_by(Call call, bytes message, Words... words) noexcept {
+    static result<record> from_call(Call call, bytes message, Words... words) noexcept {
         record found;
-        const std::uint32_t answer = call(message.data(), message.size(), words..., &found.told);
+        const std::uint32_t answer = call(message.data(), message.size(), words..., &found.raw);
         if (answer != NDEF_OK) return detail::failure(answer);
         found.whole = message;
         return found;
     }
 
-    std::uint32_t join(std::uint8_t *memory, ndef_size size, ndef_size *count, ndef_checked *) const noexcept {
-        return ndef_payload(whole.data(), whole.size(), told.at, memory, size, count);
+    [[nodiscard]] std::uint32_t join(std::uint8_t *memory, ndef_size size, ndef_size *count, ndef_checked *) const noexcept {
+        return ndef_payload(whole.data(), whole.size(), raw.at, memory, size, count);
     }
 
     bytes whole;
-    ndef_record told = {};
+    ndef_record raw = {};
 };
 
 /// Bytes that are a message: a range of its records.
@@ -114,30 +118,33 @@ public:
         ndef_checked checked = {};
         const std::uint32_t answer = ndef_check(input.data(), input.size(), &within, &checked);
         if (answer != NDEF_OK) return detail::failure(answer, checked);
-        return message(input.part(0, checked.place));
+        return message(input.part(0, checked.place), checked.records);
     }
 
     /// The records with which the bytes begin, unchecked: they go on until one is the last, or no whole record follows.
     /// Use it for bytes that a checker has taken. It is safe for any bytes.
     static message unchecked(kept input NDEF_LIFETIMEBOUND) noexcept { return message(input); }
 
-    bytes octets() const noexcept { return whole; }
-    iterator begin() const noexcept { return iterator(*this); }
-    iterator end() const noexcept { return {}; }
+    [[nodiscard]] bytes octets() const noexcept { return whole; }
+    [[nodiscard]] iterator begin() const noexcept { return iterator(*this); }
+    [[nodiscard]] iterator end() const noexcept { return {}; }
 
-    /// The number of records. It walks them.
-    std::size_t record_count() const noexcept { return static_cast<std::size_t>(std::distance(begin(), end())); }
+    /// The number of records. Of a message that `check` made it is known; of another they are walked.
+    [[nodiscard]] std::size_t record_count() const noexcept {
+        return is_counted ? records : static_cast<std::size_t>(std::distance(begin(), end()));
+    }
+    [[nodiscard]] std::size_t size() const noexcept { return record_count(); }
 
     /// The first record with a type; without a format, one that the NFC Forum defines. NDEF_END if there is none.
     result<record> find(ndef::tnf format, std::string_view type) const noexcept {
-        return record::told_by(ndef_find_type, whole, ndef_size{0}, static_cast<std::uint32_t>(format),
+        return record::from_call(ndef_find_type, whole, ndef_size{0}, static_cast<std::uint32_t>(format),
                                detail::octets(type.data()), type.size());
     }
     result<record> find(std::string_view type) const noexcept { return find(NDEF_TNF_WELL_KNOWN, type); }
 
     /// The first record with an id. No record has the empty id. NDEF_END if there is none.
     result<record> find_id(std::string_view id) const noexcept {
-        return record::told_by(ndef_find_id, whole, ndef_size{0}, detail::octets(id.data()), id.size());
+        return record::from_call(ndef_find_id, whole, ndef_size{0}, detail::octets(id.data()), id.size());
     }
 
 private:
@@ -145,15 +152,28 @@ private:
     template <class View> friend class views;
     friend class icons;
     explicit message(bytes input) noexcept : whole(input) {}
-    bool look(ndef_size &place, record &found) const noexcept {
-        if (ndef_record_at(whole.data(), whole.size(), place, &found.told) != NDEF_OK) return false;
+    message(bytes input, std::uint32_t count) noexcept : whole(input), records(count), is_counted(true) {}
+    [[nodiscard]] bool look(ndef_size &place, record &found) const noexcept {
+        if (ndef_record_at(whole.data(), whole.size(), place, &found.raw) != NDEF_OK) return false;
         found.whole = whole;
-        place = found.told.last ? detail::no_place : found.told.end;
+        place = found.raw.last ? detail::no_place : found.raw.end;
         return true;
     }
 
     bytes whole;
+    std::uint32_t records = 0;
+    bool is_counted = false;
 };
+
+} // namespace ndef
+
+#if defined(__cpp_lib_ranges)
+/// A message is copied at once, and its iterators hold what it holds.
+template <> inline constexpr bool std::ranges::enable_view<ndef::message> = true;
+template <> inline constexpr bool std::ranges::enable_borrowed_range<ndef::message> = true;
+#endif
+
+namespace ndef {
 
 // ---- why bytes are refused
 

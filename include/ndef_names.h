@@ -1,5 +1,5 @@
-/* ndef_names.h: the names of fields, lists of constants, and the names of ndef.h as strings of C. ndef.h includes this
- * file; do not include it alone.
+/* The names of fields, lists of constants, and the names of ndef.h as strings of C. They lie in ndef_names.h, which ndef.h
+ * includes; in a release they lie in ndef.h itself. Include ndef.h.
  *
  * The functions here are compiled into the program that calls them, and a program that calls none has none of these
  * texts. Each returns a string that ends with NUL and stays valid as long as the program runs; it never returns NULL.
@@ -135,7 +135,7 @@ NDEF_INLINE const char *ndef_field_text(uint32_t name) {
     switch (name) { NDEF_FIELDS(NDEF_TEXT_CASE) default: return "unknown"; }
 }
 
-/* The version of this header as text: NDEF_VERSION_STRING is "1.0.0". ndef_version_string returns it, and ndef_version
+/* The version of this header as text: NDEF_VERSION_STRING is "1.1.0.dev". ndef_version_string returns it, and ndef_version
  * gives the version of the library, which is another where the program runs with another shared library. */
 #define NDEF_DIGITS(number) #number
 #define NDEF_VERSION_TEXT(major, minor, patch) NDEF_DIGITS(major) "." NDEF_DIGITS(minor) "." NDEF_DIGITS(patch)

@@ -19,11 +19,11 @@ public:
         return read_by<text>(payload, ndef_text);
     }
 
-    std::string_view language() const noexcept { return part(told.language_at, told.language_length).text(); }
-    bool is_utf16() const noexcept { return told.utf16 != 0; }
+    [[nodiscard]] std::string_view language() const noexcept { return part(raw.language_at, raw.language_length).text(); }
+    [[nodiscard]] bool is_utf16() const noexcept { return raw.utf16 != 0; }
 
     /// The text as it is encoded in the payload.
-    bytes encoded() const noexcept { return part(told.text_at, told.text_length); }
+    [[nodiscard]] bytes encoded() const noexcept { return part(raw.text_at, raw.text_length); }
 
     /// The text in UTF-8: in place if it is encoded so, otherwise converted in the buffer.
     result<std::string_view> utf8(buffer &converted) const noexcept {
@@ -32,14 +32,20 @@ public:
         return made.transform([](bytes found) { return found.text(); });
     }
 
+    /// The text in UTF-8 in place. One in UTF-16 has NDEF_BUFFER_TOO_SMALL, and the size of the buffer that it is converted in.
+    result<std::string_view> utf8() const noexcept {
+        buffer none;
+        return utf8(none);
+    }
+
     /// The text in UTF-8 as a string.
-    std::string str() const {
+    [[nodiscard]] std::string str() const {
         if (!is_utf16()) return std::string(encoded().text());
         return detail::as_string([this](auto... words) { return convert(words...); });
     }
 
 private:
-    std::uint32_t convert(std::uint8_t *memory, ndef_size size, ndef_size *count, ndef_checked *why) const noexcept {
+    [[nodiscard]] std::uint32_t convert(std::uint8_t *memory, ndef_size size, ndef_size *count, ndef_checked *why) const noexcept {
         return ndef_text_in_utf8(whole.data(), whole.size(), memory, size, count, why);
     }
 };
@@ -54,8 +60,8 @@ public:
         return found;
     }
 
-    std::uint32_t code() const noexcept { return told.code; }
-    std::string_view rest() const noexcept { return part(told.rest_at, told.rest_length).text(); }
+    [[nodiscard]] std::uint32_t code() const noexcept { return raw.code; }
+    [[nodiscard]] std::string_view rest() const noexcept { return part(raw.rest_at, raw.rest_length).text(); }
 
     /// The URI in UTF-8, its prefix spelled out, in the buffer.
     result<std::string_view> utf8(buffer &spelled) const noexcept {
@@ -64,12 +70,12 @@ public:
     }
 
     /// The URI as a string.
-    std::string str() const {
+    [[nodiscard]] std::string str() const {
         return detail::as_string([this](auto... words) { return spell(words...); });
     }
 
 private:
-    std::uint32_t spell(std::uint8_t *memory, ndef_size size, ndef_size *count, ndef_checked *why) const noexcept {
+    [[nodiscard]] std::uint32_t spell(std::uint8_t *memory, ndef_size size, ndef_size *count, ndef_checked *why) const noexcept {
         return ndef_uri(whole.data(), whole.size(), static_cast<std::uint32_t>(reading), memory, size, count, why);
     }
 
@@ -82,12 +88,12 @@ public:
     using iterator = detail::iterator_of<views, View>;
     views() noexcept = default;
     explicit views(message of, profile how = profile::strict) noexcept : records(of), reading(how) {}
-    iterator begin() const noexcept { return iterator(*this); }
-    iterator end() const noexcept { return {}; }
+    [[nodiscard]] iterator begin() const noexcept { return iterator(*this); }
+    [[nodiscard]] iterator end() const noexcept { return {}; }
 
 private:
     friend iterator;
-    bool look(ndef_size &place, View &found) const noexcept {
+    [[nodiscard]] bool look(ndef_size &place, View &found) const noexcept {
         for (record one; place != detail::no_place && records.look(place, one);)
             if (const auto view = one.as<View>(reading)) {
                 found = *view;
@@ -113,12 +119,12 @@ public:
     using iterator = detail::iterator_of<icons, icon>;
     icons() noexcept = default;
     explicit icons(message of) noexcept : records(of) {}
-    iterator begin() const noexcept { return iterator(*this); }
-    iterator end() const noexcept { return {}; }
+    [[nodiscard]] iterator begin() const noexcept { return iterator(*this); }
+    [[nodiscard]] iterator end() const noexcept { return {}; }
 
 private:
     friend iterator;
-    bool look(ndef_size &place, icon &found) const noexcept {
+    [[nodiscard]] bool look(ndef_size &place, icon &found) const noexcept {
         for (record one; place != detail::no_place && records.look(place, one);)
             if (const auto data = one.payload(); data && one.format() == NDEF_TNF_MEDIA) {
                 found = {one.type(), *data};
@@ -143,26 +149,26 @@ public:
         return found;
     }
 
-    ndef::uri uri() const noexcept {
-        return ndef::uri::read(part(told.uri_at, told.uri_length), reading).value_or(ndef::uri());
+    [[nodiscard]] ndef::uri uri() const noexcept {
+        return ndef::uri::read(part(raw.uri_at, raw.uri_length), reading).value_or(ndef::uri());
     }
-    std::optional<ndef::action> action() const noexcept {
-        return told.has_action ? std::optional(static_cast<ndef::action>(told.action)) : std::nullopt;
+    [[nodiscard]] std::optional<ndef::action> action() const noexcept {
+        return raw.has_action ? std::optional(static_cast<ndef::action>(raw.action)) : std::nullopt;
     }
     /// The size in bytes of what the URI leads to.
-    std::optional<std::uint32_t> size() const noexcept {
-        return told.has_size ? std::optional(told.size) : std::nullopt;
+    [[nodiscard]] std::optional<std::uint32_t> size() const noexcept {
+        return raw.has_size ? std::optional(raw.size) : std::nullopt;
     }
 
     /// The media type of what the URI leads to, such as "text/html".
-    std::optional<std::string_view> media_type() const noexcept {
+    [[nodiscard]] std::optional<std::string_view> media_type() const noexcept {
         ndef_part found;
         const std::uint32_t answer = ndef_poster_media_type(whole.data(), whole.size(), &found);
         return answer == NDEF_OK ? std::optional(part(found.at, found.length).text()) : std::nullopt;
     }
 
     /// Its titles, each in a language.
-    views<text> titles() const noexcept { return views<text>(records()); }
+    [[nodiscard]] views<text> titles() const noexcept { return views<text>(records()); }
 
     /// The first title in a language, such as "en". Upper and lower case are the same in the language code. NDEF_END if
     /// there is none.
@@ -178,10 +184,10 @@ public:
     }
 
     /// Its icons, each with its media type.
-    ndef::icons icons() const noexcept { return ndef::icons(records()); }
+    [[nodiscard]] ndef::icons icons() const noexcept { return ndef::icons(records()); }
 
     /// All its records.
-    message records() const noexcept { return message::unchecked(whole); }
+    [[nodiscard]] message records() const noexcept { return message::unchecked(whole); }
 
 private:
     profile reading = profile::strict;
@@ -196,9 +202,9 @@ public:
     }
 
     /// What kind of name the carrier type is, 0 to 7.
-    std::uint32_t format() const noexcept { return told.format; }
-    std::string_view type() const noexcept { return part(told.type_at, told.type_length).text(); }
-    bytes data() const noexcept { return part(told.data_at, told.data_length); }
+    [[nodiscard]] std::uint32_t format() const noexcept { return raw.format; }
+    [[nodiscard]] std::string_view type() const noexcept { return part(raw.type_at, raw.type_length).text(); }
+    [[nodiscard]] bytes data() const noexcept { return part(raw.data_at, raw.data_length); }
 };
 
 /// The power state of a carrier.
@@ -212,12 +218,12 @@ public:
         return read_by<alternative>(payload, ndef_alternative);
     }
 
-    ndef::power power() const noexcept { return static_cast<ndef::power>(told.power); }
+    [[nodiscard]] ndef::power power() const noexcept { return static_cast<ndef::power>(raw.power); }
 
     /// The number of references, and one of them: 0 is the carrier data reference, which is the id of the record that
     /// describes the carrier, and the others are the auxiliary ones. NDEF_END if there are fewer. Each call looks at the
     /// payload from its start; `references` looks at it once.
-    std::uint32_t reference_count() const noexcept { return told.references; }
+    [[nodiscard]] std::uint32_t reference_count() const noexcept { return raw.references; }
     result<std::string_view> reference(std::uint32_t index) const noexcept {
         ndef_part found;
         const std::uint32_t answer = ndef_reference(whole.data(), whole.size(), index, &found);
@@ -226,7 +232,7 @@ public:
     }
 
     /// All references, the carrier data reference first.
-    std::vector<std::string_view> references() const {
+    [[nodiscard]] std::vector<std::string_view> references() const {
         std::vector<std::string_view> all;
         for (const ndef_part &one : detail::all_of<ndef_part>(ndef_references, whole.data(), ndef_size{whole.size()}))
             all.push_back(part(one.at, one.length).text());
@@ -243,12 +249,12 @@ public:
     }
 
     /// 0 to 255; the standard defines 1 to 3.
-    std::uint32_t error_reason() const noexcept { return told.reason; }
-    bytes data() const noexcept { return part(told.data_at, told.data_length); }
+    [[nodiscard]] std::uint32_t error_reason() const noexcept { return raw.reason; }
+    [[nodiscard]] bytes data() const noexcept { return part(raw.data_at, raw.data_length); }
 
     /// With the reasons 1 to 3, the number that the data hold.
-    std::optional<std::uint32_t> number() const noexcept {
-        return told.has_number ? std::optional(told.number) : std::nullopt;
+    [[nodiscard]] std::optional<std::uint32_t> number() const noexcept {
+        return raw.has_number ? std::optional(raw.number) : std::nullopt;
     }
 };
 
@@ -262,8 +268,8 @@ struct link {
 /// The links of a handover, in order, as one call of ndef_links gives them.
 class links {
     /// The links that lie in an array.
-    struct told_links {
-        bool look(ndef_size &index, link &found) const noexcept {
+    struct link_view {
+    [[nodiscard]]     bool look(ndef_size &index, link &found) const noexcept {
             if (index >= count) return false;
             const ndef_link &one = first[index++];
             const auto carrier = alternative::read(payload.part(one.carrier_at, one.carrier_length));
@@ -280,13 +286,13 @@ class links {
     };
 
 public:
-    using iterator = detail::iterator_of<told_links, link>;
+    using iterator = detail::iterator_of<link_view, link>;
     links() noexcept = default;
 
     /// The links of a message by the payload of its handover, in memory that they own. None where it is no handover.
     links(const message &of, kept handover NDEF_LIFETIMEBOUND)
-        : told{of.octets(), handover, nullptr, 0},
-          own(detail::all_of<ndef_link>(ndef_links, told.whole.data(), ndef_size{told.whole.size()}, handover.data(),
+        : view{of.octets(), handover, nullptr, 0},
+          own(detail::all_of<ndef_link>(ndef_links, view.whole.data(), ndef_size{view.whole.size()}, handover.data(),
                                         ndef_size{handover.size()})) {}
 
     /// The same in an array of the caller. NDEF_BUFFER_TOO_SMALL says how many elements it must have; NDEF_BAD_ARGUMENT: it is no
@@ -297,42 +303,42 @@ public:
                                           handover.data(), ndef_size{handover.size()});
         if (!count) return count.error();
         links found;
-        found.told = {whole, handover, array, *count};
+        found.view = {whole, handover, array, *count};
         return found;
     }
 
     /// Iterators are valid as long as these links and the array exist. A copy has memory of its own, or the same array.
     iterator begin() const & noexcept NDEF_LIFETIMEBOUND { return iterator(range()); }
     iterator begin() && = delete;
-    iterator end() const noexcept { return {}; }
-    std::size_t size() const noexcept { return range().count; }
+    [[nodiscard]] iterator end() const noexcept { return {}; }
+    [[nodiscard]] std::size_t size() const noexcept { return range().count; }
 
 private:
     /// The links where they lie now: those in memory that it owns move with it.
-    told_links range() const noexcept {
-        return told.first ? told : told_links{told.whole, told.payload, own.data(), own.size()};
+    [[nodiscard]] link_view range() const noexcept {
+        return view.first ? view : link_view{view.whole, view.payload, own.data(), own.size()};
     }
 
-    told_links told;
+    link_view view;
     std::vector<ndef_link> own;
 };
 
 /// What the payloads of the two handover records have.
 template <class Parts> class handover_view : public detail::payload_view<Parts> {
 public:
-    std::uint32_t major_version() const noexcept { return this->told.major; }
-    std::uint32_t minor_version() const noexcept { return this->told.minor; }
+    [[nodiscard]] std::uint32_t major_version() const noexcept { return this->raw.major; }
+    [[nodiscard]] std::uint32_t minor_version() const noexcept { return this->raw.minor; }
 
     /// The number of alternative carriers; and each of them, with its record in the message whose handover this is, in
     /// memory that they own or in an array of the caller.
-    std::size_t carrier_count() const noexcept { return static_cast<std::size_t>(this->told.carriers); }
-    ndef::links links(const message &of) const { return {of, this->whole}; }
+    [[nodiscard]] std::size_t carrier_count() const noexcept { return static_cast<std::size_t>(this->raw.carriers); }
+    [[nodiscard]] ndef::links links(const message &of) const { return {of, this->whole}; }
     result<ndef::links> links(ndef_link *array, std::size_t size, const message &of) const {
         return ndef::links::in(array, size, of, this->whole);
     }
 
     /// All its records; none if the payload is the version alone.
-    message records() const noexcept { return message::unchecked(this->whole.from(1)); }
+    [[nodiscard]] message records() const noexcept { return message::unchecked(this->whole.from(1)); }
 };
 
 /// The payload of a Handover Request record.
@@ -344,7 +350,7 @@ public:
     }
 
     /// The random number by which two devices that ask at once agree.
-    std::uint32_t collision() const noexcept { return told.collision; }
+    [[nodiscard]] std::uint32_t collision() const noexcept { return raw.collision; }
 };
 
 /// The payload of a Handover Select record.
@@ -356,10 +362,10 @@ public:
     }
 
     /// The reason of its error, if it has one, and the error's data.
-    std::optional<std::uint32_t> error_reason() const noexcept {
-        return told.has_error ? std::optional(told.error) : std::nullopt;
+    [[nodiscard]] std::optional<std::uint32_t> error_reason() const noexcept {
+        return raw.has_error ? std::optional(raw.error) : std::nullopt;
     }
-    bytes error_data() const noexcept { return part(told.detail_at, told.detail_length); }
+    [[nodiscard]] bytes error_data() const noexcept { return part(raw.detail_at, raw.detail_length); }
 };
 
 } // namespace ndef

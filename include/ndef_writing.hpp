@@ -275,7 +275,7 @@ public:
     }
 
     /// The message so far.
-    message made() const noexcept { return message::unchecked(bytes(memory.data(), memory.size()).part(0, built.length)); }
+    [[nodiscard]] message made() const noexcept { return message::unchecked(bytes(memory.data(), memory.size()).part(0, built.length)); }
 
 private:
     /// Appends a record by a call of ndef.h: call(built, words.., memory, size, count).
@@ -300,9 +300,10 @@ private:
     /// Checks the new record after all others. The record that was the last says so no longer, and is fed as it is now.
     std::uint32_t feed(const ndef_message_builder &before) noexcept {
         ndef_checker now = before_last;
-        if (before.length) ndef_feed(&now, memory.data() + fed, before.length - fed, &refused);
+        std::uint32_t answer = NDEF_MORE;
+        if (before.length) answer = ndef_feed(&now, memory.data() + fed, before.length - fed, &refused);
         ndef_checker after = now;
-        const std::uint32_t answer = ndef_feed(&after, memory.data() + before.length, built.length - before.length, &refused);
+        answer = ndef_feed(&after, memory.data() + before.length, built.length - before.length, &refused);
         if (answer == NDEF_OK) before_last = now, fed = before.length;
         return answer;
     }
@@ -355,14 +356,14 @@ public:
     }
 
     /// Whether the record is whole: no other call without a part and a buffer fails.
-    bool is_whole() const noexcept {
+    [[nodiscard]] bool is_whole() const noexcept {
         record_writer copy = *this;
         buffer none;
         return !copy.call({}, none);
     }
 
     /// How many bytes of the payload are left.
-    std::uint32_t left() const noexcept { return state.payload_length - state.taken; }
+    [[nodiscard]] std::uint32_t left() const noexcept { return state.payload_length - state.taken; }
 
 private:
     explicit record_writer(const new_record &one) noexcept : type(one.type), id(one.id) {}

@@ -1,8 +1,12 @@
-// Prints the texts and links of a tag's bytes, as a reader gives them: a message, and what follows it on the tag.
+// Prints the texts and links of a Type 2 Tag, of what a PN532 answers where it reads the tag's memory.
 #include <ndef.h>
+#include <string.h>
 
-static const uint8_t tag[] = "\x91\x01\x08T\x02" "enHello" "\x51\x01\x0cU\x02" "example.com\xfe";
-static uint8_t payload[256], spelled[512];
+// The answers to InDataExchange with the tag's command READ of the pages 4 and 8: D5 41, the status and 16 bytes.
+static const uint8_t answers[][19] = {
+  {0xD5, 0x41, 0, 0x03, 0x1C, 0x91, 0x01, 0x08, 'T', 0x02, 'e', 'n', 'H', 'e', 'l', 'l', 'o', 0x51, 0x01},
+  {0xD5, 0x41, 0, 0x0C, 'U', 0x02, 'e', 'x', 'a', 'm', 'p', 'l', 'e', '.', 'c', 'o', 'm', 0xFE, 0x00}};
+static uint8_t memory[sizeof answers / sizeof *answers * 16], payload[256], spelled[512];
 
 static void printTag(const uint8_t *bytes, ndef_size length) {
   ndef_limits limits;
@@ -29,8 +33,14 @@ static void printTag(const uint8_t *bytes, ndef_size length) {
 }
 
 void setup() {
+  ndef_limits limits;
+  ndef_found found;
   Serial.begin(115200);
-  printTag(tag, sizeof tag - 1);
+  for (size_t page = 0; page < sizeof memory / 16; page++) memcpy(memory + 16 * page, answers[page] + 3, 16);
+  ndef_default_limits(&limits);
+  // The library finds where the tag has a message.
+  if (ndef_find_hint(memory, sizeof memory, &limits, &found) == NDEF_OK && found.hint == NDEF_HINT_TLV)
+    printTag(memory + found.at, found.length);
 }
 
 void loop() {}

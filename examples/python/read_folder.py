@@ -30,8 +30,8 @@ def lines_of(paths):
     """A line for each file, and how many of them hold a message. A process runs this for some of the files."""
     given = [octets_of(path) for path in paths]
     answers = ndef.decode_many(octets for octets in given if not isinstance(octets, OSError))
-    told = [octets if isinstance(octets, OSError) else next(answers) for octets in given]
-    return [line_of(path, answer) for path, answer in zip(paths, told)], sum(isinstance(answer, list) for answer in told)
+    results = [octets if isinstance(octets, OSError) else next(answers) for octets in given]
+    return [line_of(path, answer) for path, answer in zip(paths, results)], sum(isinstance(answer, list) for answer in results)
 
 
 def of_pool(parts, workers):
