@@ -1,4 +1,5 @@
 """What the test programs in Python share: they count their tests here, and end with `finish`, as those of test/harness.sh do."""
+import os
 import pathlib
 import re
 import shutil
@@ -18,9 +19,24 @@ def count(name, passed, *lines, quiet=False):
         print(f'ok: {name}')
 
 
+def is_outdated():
+    """Whether out/ is made of a release, and the crates have changed since: in make check only, as over_dist of test/sources.sh has it."""
+    if not {'NDEF_QUICK', 'NDEF_LONG'} & set(os.environ) or (TOP / 'out/from').read_text().strip() == 'crates':
+        return False
+    of_crates = subprocess.run([TOP / 'packaging/tree_hash'], stdout=subprocess.PIPE, text=True, check=True).stdout.strip()
+    return f'\ncrates {of_crates}\n' not in (TOP / 'dist/SOURCE').read_text()
+
+
+def over_dist(name, passed, *lines, quiet=False):
+    """Counts a test that may ask for what the release in dist/ hasn't: if it fails and the crates have changed since, it is left out."""
+    if passed or not is_outdated():
+        return count(name, passed, *lines, quiet=quiet)
+    left_out(f'{name}: the crates have changed since the release in dist/')
+
+
 def left_out(why, package=None):
     """Says that tests are left out."""
-    print(f'left out: {why}' + (f' (Debian package {package})' if package else ''))
+    print(f'left out: {why}' + (f' (Debian package {package})' if package not in (None, '-') else ''))
 
 
 def has(name):

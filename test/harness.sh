@@ -8,6 +8,7 @@
 # The names that `has` knows stand in test/needs.txt.
 set -u
 top=$(cd "$(dirname "${BASH_SOURCE[0]}")/.." && pwd)
+. "$top/test/counts.sh"
 # shellcheck disable=SC2034
 here=$(cd "$(dirname "$0")" && pwd)
 out=$(mktemp -d)
@@ -29,29 +30,23 @@ count() {
     fi
 }
 
-# try NAME [-v] COMMAND..: runs a command as a test. What it printed is shown where it fails, or where -v asks for it.
+# try NAME [-v] COMMAND..: runs a command as a test. What it printed is shown where it fails, or where -v asks for it; else what it left out.
 try() {
-    local name=$1 shown='' status
+    local name=$1 shown='^left out: ' status
     shift
-    if [ "$1" = -v ]; then shown=yes; shift; fi
+    if [ "$1" = -v ]; then shown=''; shift; fi
     "$@" >"$out/said" 2>&1
     status=$?
     count "$name" "$status"
-    if [ "$status" != 0 ]; then tail -n 40 "$out/said"; elif [ "$shown" ]; then cat "$out/said"; fi
+    if [ "$status" != 0 ]; then tail -n 40 "$out/said"; else grep "$shown" "$out/said"; fi
 }
 
-# add COMMAND..: runs a program that tests and prints 'N passed, M failed', shows what it prints, and adds its counts. A program that
-# ends without that line has failed, and so has one whose status says another thing.
+# add COMMAND..: runs a program that tests and prints 'N passed, M failed', shows what it prints, and adds its counts.
 add() {
-    local status line good bad
+    local good bad why
     "$@" 2>&1 | tee "$out/added"
-    status=${PIPESTATUS[0]}
-    line=$(grep -xE '[0-9]+ passed, [0-9]+ failed' "$out/added" | tail -n 1)
-    read -r good _ bad _ <<<"${line:-0 passed, 1 failed}"
-    if [ "$bad" = 0 ] && [ "$status" != 0 ] && [ "$good $status" != '0 77' ]; then
-        bad=1
-        echo "FAILED: $* ends with status $status"
-    fi
+    counts "$out/added" "${PIPESTATUS[0]}"
+    [ -z "$why" ] || echo "FAILED: $* $why"
     passed=$((passed + good)) failed=$((failed + bad))
 }
 
@@ -70,8 +65,8 @@ has() {
     done
 }
 
-# left_out WHY [PACKAGE]: says that tests are left out.
-left_out() { echo "left out: $1${2:+ (Debian package $2)}"; }
+# left_out WHY [PACKAGE]: says that tests are left out, and which package has what they need; '-' is none.
+left_out() { if [ "${2:--}" = - ]; then echo "left out: $1"; else echo "left out: $1 (Debian package $2)"; fi; }
 
 # Prints the counts and ends the script. Its status is 1 where a test failed, and 77 where none was run.
 finish() {

@@ -7,7 +7,7 @@ enum { MOST_BYTES = 1 << 14, MOST_PARTS = 1 << 12 };
 /* The memory of a reader: where payloads are joined and texts written. */
 struct reader {
     uint64_t hash;
-    uint8_t payload[MOST_BYTES], room[MOST_BYTES];
+    uint8_t payload[MOST_BYTES], buffer[MOST_BYTES];
     ndef_field fields[MOST_PARTS];
     ndef_link links[MOST_PARTS];
 };
@@ -32,15 +32,15 @@ static void read_text(struct reader *to, ndef_size length) {
     ndef_size count = 0;
     if (mix_refusal(to, ndef_text(to->payload, length, &text, &why), &why) != NDEF_OK) return;
     mix(to, text.language_length), mix(to, text.text_at), mix(to, text.text_length), mix(to, text.utf16);
-    mix(to, ndef_text_in_utf8(to->payload, length, to->room, MOST_BYTES, &count, &why));
-    mix_bytes(to, to->room, count);
+    mix(to, ndef_text_in_utf8(to->payload, length, to->buffer, MOST_BYTES, &count, &why));
+    mix_bytes(to, to->buffer, count);
 }
 
 static void read_uri(struct reader *to, ndef_size length, uint32_t flags) {
     ndef_checked why;
     ndef_size count = 0;
-    if (mix_refusal(to, ndef_uri(to->payload, length, flags, to->room, MOST_BYTES, &count, &why), &why) != NDEF_OK) return;
-    mix_bytes(to, to->room, count);
+    if (mix_refusal(to, ndef_uri(to->payload, length, flags, to->buffer, MOST_BYTES, &count, &why), &why) != NDEF_OK) return;
+    mix_bytes(to, to->buffer, count);
 }
 
 static void read_poster(struct reader *to, ndef_size length, uint32_t flags) {

@@ -9,9 +9,9 @@ import tables  # noqa: E402
 
 PAGE = 'before\n' + ''.join('<!-- bench %s -->\nold\n<!-- end -->\n' % name for name in tables.NAMES) + 'after\n'
 RESULTS = {'made of': 'dist', 'version': '1.3.0', 'released': '1.2.3', 'of dist': ['Go'], 'machine': 'a processor', 'load': 'load 1 on 4 cores', 'peaks': {'c records-60000': 0, 'c opaque-1M': 12},
-           'instructions': {'ndef_text, refused': 7, '`ndef check`': 8},
+           'instructions': {'ndef_check, refused': 7, 'by hand: ndef_check, refused': 14, '`ndef check`': 8},
            'times': {'c': {'check hello': 20.4, 'walk hello': 40.0, 'check records-100': 2000.0, 'check records-1000': 21000.0, 'check records-10000': 2.2e5,
-                           'check records-60000': 1.8e6, 'check wide-1M': 2.5e6}, 'plain': {'check hello': 40.8}, 'c_gcc': {'check hello': 51.2}, 'hand': {'check hello': 25.6},
+                           'check records-60000': 1.8e6, 'check wide-1M': 2.5e6}, 'plain': {'check hello': 40.8}, 'c_gcc': {'check hello': 51.2, 'hand-check hello': 25.6},
                      'page': {'task records-100': 1e7, 'layout records-100': 2e7, 'all records-100': 9e7, 'task records-1000': 1e7}}}
 
 
@@ -33,7 +33,7 @@ class Tables(unittest.TestCase):
     def test_a_page_takes_each_table(self):
         page = tables.filled(PAGE, RESULTS)
         for line in ('| the text "Hello" | 12 | 20 ns | 41 ns | 0.50 | 40 ns |',
-                     '| the text "Hello" | 12 | 51 ns | 20 ns | 26 ns | 2.00 |', '| `ndef_check` | 20 | 21 | 22 | 30 |', '| `ndef_text`, refused | 7 |', '| `ndef check` | 8 |', '| `ndef_check` | 0 | 12 |',
+                     '| the text "Hello" | 12 | 51 ns | 20 ns | 26 ns | 2.00 |', '| `ndef_check` | 20 | 21 | 22 | 30 |', '| `ndef_check`, refused | 7 | 14 | 0.50 |', '| `ndef check` | 8 |  |  |', '| `ndef_check` | 0 | 12 |',
                      '| 100 records | 10 ms | 20 ms | 90 ms |'):
             self.assertIn(line, page.split('\n'))
         self.assertEqual(page.count('\nold\n'), 1 + tables.written(RESULTS).count('Not measured.'))

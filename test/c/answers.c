@@ -45,7 +45,7 @@ static uint8_t *marked(ndef_size size) {
     return buffer;
 }
 
-static void mix_room(uint32_t status, ndef_size size, ndef_size count) {
+static void mix_needed(uint32_t status, ndef_size size, ndef_size count) {
     mix_status(status);
     mix(count);
     mix_bytes(buffer, size + MARKS);
@@ -59,7 +59,7 @@ static void copy_bytes(uint8_t *to, const uint8_t *from, ndef_size length) {
 
 /* A call that writes to a buffer. */
 #define WRITTEN(size, call) do { ndef_size count = 77; uint8_t *to = marked(size); (void)to; \
-    uint32_t status = (call); mix_room(status, size, count); } while (0)
+    uint32_t status = (call); mix_needed(status, size, count); } while (0)
 
 static void read_with_flags(const uint8_t *bytes, ndef_size length, uint32_t flags, ndef_size size) {
     ndef_checked why = { 77, 77, 77 };

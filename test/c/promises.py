@@ -17,7 +17,7 @@ from harness import TOP, count, finish  # noqa: E402
 
 OK, REFUSED, BUFFER_TOO_SMALL, BAD_ARGUMENT, END, MORE = range(6)
 STATUSES = ('NDEF_OK', 'NDEF_REFUSED', 'NDEF_BUFFER_TOO_SMALL', 'NDEF_BAD_ARGUMENT', 'NDEF_END', 'NDEF_MORE')
-ROOM, MARGIN = 600, 8
+CAPACITY, MARGIN = 600, 8
 HEADER = (TOP / 'include/ndef.h').read_text()
 COMMENTS = [re.sub(r'\s+', ' ', re.sub(r'\n \*', '\n', found)) for found in re.findall(r'/\*(.*?)\*/', HEADER, re.S)]
 SAID = ' / '.join(comment.strip() for comment in COMMENTS)
@@ -76,10 +76,10 @@ class Library:
         lengths = [dice.choice((1, 2)), dice.choice((1, 2)), dice.choice((0, 1, 300))]
         how = b''.join(number.to_bytes(4, 'little') for number in (1, dice.choice((0, 3, 4)), dice.choice((0, 1, 100))))
         self.library.ndef_writer_begin(writer, *(ctypes.c_uint64(length) for length in lengths), how)
-        for size in dice.choice(((), (3,), (7, 20), (ROOM,), (ROOM, ROOM, ROOM))):
+        for size in dice.choice(((), (3,), (7, 20), (CAPACITY,), (CAPACITY, CAPACITY, CAPACITY))):
             part = lengths[2] - int.from_bytes(writer.raw[24:28], 'little')
             self.library.ndef_writer_next(writer, bytes(2), ctypes.c_uint64(lengths[0]), bytes(2), ctypes.c_uint64(lengths[1]), bytes(300), ctypes.c_uint64(part),
-                                          ctypes.create_string_buffer(ROOM), ctypes.c_uint64(size), ctypes.byref(count))
+                                          ctypes.create_string_buffer(CAPACITY), ctypes.c_uint64(size), ctypes.byref(count))
         return writer.raw
 
     def given(self, dice, parameter, before):
@@ -88,7 +88,7 @@ class Library:
         kind = parameter['type'].replace('const ', '').rstrip(' *')
         if role == 'length':
             of = before[-1]
-            return dice.choice((0, 1, 3, 20, ROOM)) if of[0] == 'buffer' else len(of[1]) // of[2]
+            return dice.choice((0, 1, 3, 20, CAPACITY)) if of[0] == 'buffer' else len(of[1]) // of[2]
         if role == 'value':
             return dice.choice(VALUES.get(name, NUMBERS))
         if role == 'array' and kind == 'uint8_t':
@@ -101,7 +101,7 @@ class Library:
         return b''
 
     def memory(self, call, arguments, fill):
-        """Memory for what each parameter of a call points to. What the call may write holds the number `fill`; a room is longer than the call is told."""
+        """Memory for what each parameter of a call points to. What the call may write holds the number `fill`; a buffer is longer than the call knows."""
         made = {}
         for parameter in call['parameters']:
             name, role, given = parameter['name'], parameter['role'], arguments[parameter['name']]
@@ -138,26 +138,26 @@ class Promises:
         found = re.search(r'With NDEF_BAD_ARGUMENT and NDEF_END the call has written nothing \(but (\w+) has written its (\w+)\); with NDEF_BUFFER_TOO_SMALL it has written (.+?)\. '
                           r'Where the array is too small or there is no field, (.+?) have written \*(\w+) as well, and (ndef_\w+), which has no count, \*(\w+)\.', SAID)
         self.beside = {found[1]: found[2]}
-        self.without_room = {found[3].split()[0].lstrip('*')} if found[3].startswith('*') else set()
+        self.without_buffer = {found[3].split()[0].lstrip('*')} if found[3].startswith('*') else set()
         self.with_refusal = {name: found[5] for name in re.findall(r'ndef_\w+', found[4])}
         self.without_count = {found[6]: found[7]}
         self.is_refusal_kept = 'With NDEF_OK it leaves `refusal` unchanged.' in SAID
-        told = re.search(r'NDEF_MORE = \d+ +/\*.*?\((ndef_\w+) alone\) \*/', HEADER)
-        self.of_more = {told[1]} if told else None
+        more = re.search(r'NDEF_MORE = \d+ +/\*.*?\((ndef_\w+) alone\) \*/', HEADER)
+        self.of_more = {more[1]} if more else None
         self.refused_records = re.search(r'uint32_t records; +/\* the number of records; if refused, (\d+) \*/', HEADER)
 
     def may_write(self, call, status):
         """The parameters that a call may write when it answers with a status."""
         name, all_of = call['name'], {one['name'] for one in call['parameters'] if one['role'] in ('out', 'buffer', 'change')}
-        rooms = {one['name'] for one in call['parameters'] if one['role'] == 'buffer'}
+        buffers = {one['name'] for one in call['parameters'] if one['role'] == 'buffer'}
         if status == BAD_ARGUMENT:
             return {self.beside[name]} if name in self.beside else set()
         if status == BUFFER_TOO_SMALL and name in self.without_count:
             return {self.without_count[name]}
         if status in (END, BUFFER_TOO_SMALL):
-            return (self.without_room if status == BUFFER_TOO_SMALL else set()) | ({self.with_refusal[name]} & all_of if name in self.with_refusal else set())
+            return (self.without_buffer if status == BUFFER_TOO_SMALL else set()) | ({self.with_refusal[name]} & all_of if name in self.with_refusal else set())
         if status == REFUSED and name != 'ndef_fields':
-            return {'refusal'} if 'refusal' in all_of else all_of - rooms
+            return {'refusal'} if 'refusal' in all_of else all_of - buffers
         if status == OK and 'refusal' in all_of and name not in self.with_refusal and self.is_refusal_kept:
             return all_of - {'refusal'}
         return all_of
@@ -165,13 +165,13 @@ class Promises:
 
 def needed(library, name, arguments, written, memory, status):
     """What is wrong with what a call says of sizes: with NDEF_BUFFER_TOO_SMALL the size that is needed, else that nothing after what it wrote has changed."""
-    room = next((one for one in library.calls[name]['parameters'] if one['role'] == 'buffer'), None)
-    if room is None or not (written['count'] if 'count' in memory else status in (OK, BUFFER_TOO_SMALL)):
+    buffer = next((one for one in library.calls[name]['parameters'] if one['role'] == 'buffer'), None)
+    if buffer is None or not (written['count'] if 'count' in memory else status in (OK, BUFFER_TOO_SMALL)):
         return
-    size, told = library.size(room['type']), int.from_bytes(memory['count'].raw[:8] if 'count' in memory else memory['out'].raw[8:12], 'little')
-    if status == BUFFER_TOO_SMALL and told <= arguments['capacity']:
+    size, count = library.size(buffer['type']), int.from_bytes(memory['count'].raw[:8] if 'count' in memory else memory['out'].raw[8:12], 'little')
+    if status == BUFFER_TOO_SMALL and count <= arguments['capacity']:
         yield 'the size that is needed is there'
-    if status != BUFFER_TOO_SMALL and (told > arguments['capacity'] or written[room['name']] > told * size):
+    if status != BUFFER_TOO_SMALL and (count > arguments['capacity'] or written[buffer['name']] > count * size):
         yield 'more is written than *count says'
 
 

@@ -52,8 +52,8 @@ static bool read_by_ours(const QByteArray &bytes, Message &message, ndef_checked
     for (size_t at = 0; ndef_record_at(start(bytes), size_t(checked.place), at, &r) == NDEF_OK; at = r.end) {
         QByteArray payload(int(r.payload_length), 0);
         size_t count = 0;
-        uint8_t *room = reinterpret_cast<uint8_t *>(payload.data());
-        if (ndef_payload(start(bytes), size_t(checked.place), at, room, r.payload_length, &count) != NDEF_OK) abort();
+        uint8_t *buffer = reinterpret_cast<uint8_t *>(payload.data());
+        if (ndef_payload(start(bytes), size_t(checked.place), at, buffer, r.payload_length, &count) != NDEF_OK) abort();
         message.push_back({ r.tnf, bytes.mid(int(r.type_at), int(r.type_length)), bytes.mid(int(r.id_at), int(r.id_length)), payload });
     }
     return message.size() == checked.records;
@@ -65,12 +65,12 @@ static QByteArray write_by_ours(const Message &message, unsigned form, unsigned 
         const Plain &m = message[i];
         const unsigned flags = form | (i == 0 ? unsigned(NDEF_WRITE_FIRST) : 0u) | (i + 1 == message.size() ? unsigned(NDEF_WRITE_LAST) : 0u);
         const ndef_writing how = { m.tnf, flags, chunk };
-        QByteArray room(8192, 0);
+        QByteArray buffer(8192, 0);
         size_t count = 0;
         if (ndef_write_record(start(m.type), size_t(m.type.size()), start(m.id), size_t(m.id.size()), start(m.payload),
-                              size_t(m.payload.size()), &how, reinterpret_cast<uint8_t *>(room.data()), size_t(room.size()),
+                              size_t(m.payload.size()), &how, reinterpret_cast<uint8_t *>(buffer.data()), size_t(buffer.size()),
                               &count) != NDEF_OK) abort();
-        bytes += room.left(int(count));
+        bytes += buffer.left(int(count));
     }
     return bytes;
 }
@@ -98,7 +98,7 @@ static QByteArray write_by_qt(const Message &message) {
 static std::string reason_of(const ndef_checked &checked) {
     uint8_t name[16];
     size_t length = 0;
-    ndef_reason_name(checked.reason, name, sizeof name, &length);
+    if (ndef_reason_name(checked.reason, name, sizeof name, &length) != NDEF_OK) return {};
     return std::string(reinterpret_cast<char *>(name), length);
 }
 

@@ -43,7 +43,7 @@ def time_of(given):
     return fewest
 
 
-told = [time_of(handover(count)) for count in COUNTS]
-print('carriers of a handover', *COUNTS, *('%.1f ms' % (1e3 * seconds) for seconds in told), sep=' | ')
-harness.count('ten times as many carriers take ten times as long', all(now < 35 * before + 0.02 for before, now in zip(told, told[1:])), str(told))
+times = [time_of(handover(count)) for count in COUNTS]
+print('carriers of a handover', *COUNTS, *('%.1f ms' % (1e3 * seconds) for seconds in times), sep=' | ')
+harness.count('ten times as many carriers take ten times as long', all(now < 35 * before + 0.02 for before, now in zip(times, times[1:])), str(times))
 harness.finish()

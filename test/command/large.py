@@ -43,9 +43,9 @@ def in_pieces(records, size):
     return octets
 
 
-def lines(octets, records, *told):
+def lines(octets, records, *shown):
     """What `show` prints of a message with these lines."""
-    return ('\n'.join(['message 1 at 0: records %d, bytes %d' % (records, len(octets)), *told]) + '\n').encode()
+    return ('\n'.join(['message 1 at 0: records %d, bytes %d' % (records, len(octets)), *shown]) + '\n').encode()
 
 
 def front(number, tnf, kind, name, payload):
@@ -58,11 +58,11 @@ def many_records():
     names = [bytes(97 + (at + place) % 26 for place in range(40)) for at in range(2000)]
     records = [(EXTERNAL, b'x:y', name, bytes((at + place) % 256 for place in range(at % 301))) for at, name in enumerate(names)]
     octets = message(records)
-    told = [front(at + 1, EXTERNAL, 'x:y', name.decode(), at % 301) + ' other' for at, name in enumerate(names)]
+    shown = [front(at + 1, EXTERNAL, 'x:y', name.decode(), at % 301) + ' other' for at, name in enumerate(names)]
     for program in ([], ['--hex']):
         given = octets.hex().encode() if program else octets
         row('ndef: 2000 records are shown' + ' of hexadecimal text' * len(program), NDEF, ['show', '--records', '2000', *program], given,
-            lines(octets, 2000, *told))
+            lines(octets, 2000, *shown))
         row('ndef: 2000 records are written again' + ' in hexadecimal text' * len(program), NDEF, ['encode', '--records', '2000', *program],
             given, given + b'\n' if program else given)
         row('ndef: 2000 records are checked' + ' in hexadecimal text' * len(program), NDEF, ['check', '--records', '2000', *program], given,
@@ -94,8 +94,8 @@ def posters():
     row('ndef-make: a poster of 20 titles', MAKE, words, b'', message([(WELL_KNOWN, b'Sp', None, poster(20))]))
     for titles in (20, 1500):
         octets = message([(WELL_KNOWN, b'Sp', None, poster(titles))])
-        told = front(1, WELL_KNOWN, 'Sp', '', len(poster(titles))) + ' poster records %d uri "a" titles %d action none size none media none'
-        row('ndef: a poster of %d titles' % titles, NDEF, ['show', '--records', '2000'], octets, lines(octets, 1, told % (titles + 1, titles)))
+        shown = front(1, WELL_KNOWN, 'Sp', '', len(poster(titles))) + ' poster records %d uri "a" titles %d action none size none media none'
+        row('ndef: a poster of %d titles' % titles, NDEF, ['show', '--records', '2000'], octets, lines(octets, 1, shown % (titles + 1, titles)))
 
 
 def select():
@@ -105,10 +105,10 @@ def select():
     payload = b'\x13' + carriers
     octets = message([(WELL_KNOWN, b'Hs', None, payload), *((EXTERNAL, b'x:y', name, b'') for name in names)])
     powers = ['inactive', 'active', 'activating', 'unknown']
-    told = [front(1, WELL_KNOWN, 'Hs', '', len(payload)) + ' select version 1.3 carriers 300']
-    told += [front(at + 2, EXTERNAL, 'x:y', name.decode(), 0) + ' other' for at, name in enumerate(names)]
-    told += [' carrier %d power %s reference "%s" record %d' % (at + 1, powers[at % 4], name.decode(), at + 2) for at, name in enumerate(names)]
-    row('ndef: a select of 300 carriers', NDEF, ['show'], octets, lines(octets, 301, *told))
+    shown = [front(1, WELL_KNOWN, 'Hs', '', len(payload)) + ' select version 1.3 carriers 300']
+    shown += [front(at + 2, EXTERNAL, 'x:y', name.decode(), 0) + ' other' for at, name in enumerate(names)]
+    shown += [' carrier %d power %s reference "%s" record %d' % (at + 1, powers[at % 4], name.decode(), at + 2) for at, name in enumerate(names)]
+    row('ndef: a select of 300 carriers', NDEF, ['show'], octets, lines(octets, 301, *shown))
 
 
 many_records()

@@ -35,6 +35,17 @@ def cases(source, number):
     return labels
 
 
+def without_throws(found):
+    """The branches but for those of a call that may throw: the way past it, and the way by which an exception leaves."""
+    kept = []
+    for branch in found:
+        if not branch['throw']:
+            kept.append(branch)
+        elif kept and kept[-1]['fallthrough']:
+            kept.pop()
+    return kept
+
+
 def outcomes(source, line):
     """The name of each branch of a line: what its condition is, or which label is taken, or its number. Before the labels of a switch stand
     the branches of what it switches over."""
@@ -95,9 +106,9 @@ def measured(data, source):
 
 def all_gcov(notes):
     """What gcov says of each source file, by the counts of an object."""
-    told = subprocess.run(['gcov', '--json-format', '--branch-probabilities', '--stdout', notes], stdout=subprocess.PIPE, check=True).stdout
-    told = gzip.decompress(told) if told[:2] == b'\x1f\x8b' else told
-    return json.loads(told)['files']
+    printed = subprocess.run(['gcov', '--json-format', '--branch-probabilities', '--stdout', notes], stdout=subprocess.PIPE, check=True).stdout
+    printed = gzip.decompress(printed) if printed[:2] == b'\x1f\x8b' else printed
+    return json.loads(printed)['files']
 
 
 def read_gcov(notes, path):

@@ -69,7 +69,8 @@ def added(figures_of):
 
 
 def of_headers(folder):
-    """A line of a template counts for all that are made of it, and so does a branch."""
+    """A line of a template counts for all that are made of it, and so does a branch. The driver of the table has exceptions: a line has more ways
+    there, so only its branches of two ways count, and no end of a block."""
     counts = collections.defaultdict(collections.Counter)
     for notes in sorted(pathlib.Path(folder).glob('*.gcda')):
         for file in branches.all_gcov(str(notes)):
@@ -78,6 +79,11 @@ def of_headers(folder):
                 continue
             texts = (TOP / 'include' / name).read_text().splitlines()
             for line in file['lines']:
+                if notes.stem.endswith('driver'):
+                    if texts[line['line_number'] - 1].strip() == '}':
+                        continue
+                    line['branches'] = branches.without_throws(line['branches'])
+                    line['branches'] = line['branches'] if len(line['branches']) == 2 else []
                 counts[name][line['line_number'], None] += line['count']
                 for outcome, branch in zip(branches.outcomes(texts, line), line['branches']):
                     counts[name][line['line_number'], outcome] += branch['count']

@@ -14,11 +14,11 @@ inline void look(bool holds, const char *file, int line) {
 #define LOOK(...) look((__VA_ARGS__), __FILE__, __LINE__)
 
 /// Whether bytes are a part of others, in place.
-inline bool is_part(ndef::bytes told, ndef::bytes whole, ndef_size at, ndef_size length) {
-    return told.size() == length && told.data() == whole.data() + at;
+inline bool is_part(ndef::bytes found, ndef::bytes whole, ndef_size at, ndef_size length) {
+    return found.size() == length && found.data() == whole.data() + at;
 }
-inline bool is_part(std::string_view told, ndef::bytes whole, ndef_size at, ndef_size length) {
-    return is_part(ndef::bytes(told), whole, at, length);
+inline bool is_part(std::string_view found, ndef::bytes whole, ndef_size at, ndef_size length) {
+    return is_part(ndef::bytes(found), whole, at, length);
 }
 
 #endif

@@ -26,9 +26,9 @@ static std::uint8_t memory[1 << 21];
 /// Whether a range gives these values, however it is walked: by a loop, by both ways to step, from copies, and twice.
 template <class Range, class Key>
 static void walk(const Range &range, const std::vector<std::string> &wanted, Key key) {
-    std::vector<std::string> told, by_steps, by_copies;
-    for (const auto &one : range) told.push_back(key(one));
-    LOOK(told == wanted);
+    std::vector<std::string> got, by_steps, by_copies;
+    for (const auto &one : range) got.push_back(key(one));
+    LOOK(got == wanted);
     auto before = range.begin();
     for (auto at = range.begin(); at != range.end(); ++at) {
         by_steps.push_back(key(*at));
@@ -49,7 +49,7 @@ static void walk(const Range &range, const std::vector<std::string> &wanted, Key
     LOOK(&++(before = range.begin(), before) == &before || wanted.empty());
 }
 
-/// A walk asks for each record once, and for none after the last.
+/// A walk asks for each record once, and for none after the last. A message that is checked has the number of its records.
 static void records_asked_for() {
     for (std::size_t count = 1; count < 40; count++) {
         std::string octets;
@@ -58,7 +58,8 @@ static void records_asked_for() {
             octets.append({0, 1, 'x'});
         }
         asked = 0;
-        LOOK(ndef::message::check(octets)->record_count() == count && asked == count);
+        LOOK(ndef::message::check(octets)->size() == count && asked == 0);
+        LOOK(ndef::message::unchecked(octets).size() == count && asked == count);
     }
 }
 
@@ -149,30 +150,6 @@ static void copies() {
          ndef::record().type().empty());
 }
 
-/// Two handovers and two messages, one after another, and what is found first.
-static void two_of_each() {
-    const octets two = {0x91, 2,   1,   'H', 's', 0x13, 0x19, 1, 2,   1,   'U',  'i',  0, 'a', 0x19, 1, 2,
-                        1,    'U', 'i', 0,   'b', 0x51, 2,    1, 'H', 's', 0x14, 0xd1, 1, 2,   'U',  0, 'c'};
-    const auto first = *ndef::message::check(two);
-    const auto second = *ndef::message::check(ndef::bytes(two).from(first.octets().size()));
-    LOOK(first.record_count() == 4 && first.octets().size() == 28 && second.record_count() == 1);
-    LOOK(first.find("U")->as<ndef::uri>()->str() == "a" && first.find_id("i")->place() == 6 &&
-         second.find("U")->as<ndef::uri>()->str() == "c");
-    LOOK(first.find("Hs")->as<ndef::select>()->minor_version() == 3 && !second.find_id("i") &&
-         second.find_id("i").error().what == NDEF_END);
-    ndef::checker checker;
-    LOOK((*checker.feed(two))->size == 28 && (*checker.feed(two))->records == 4);
-    ndef::checker again;
-    LOOK(!*again.feed(ndef::bytes(two).part(0, 27)) && (*again.feed(ndef::bytes(two).from(27)))->size == 28);
-    const octets wrong = {0xd7};
-    ndef::checker refused;
-    LOOK(refused.feed(wrong).error().why == NDEF_REASON_RESERVED_TNF && refused.feed(two).error().place == 0);
-    ndef_limits none = {};
-    ndef::checker bad(none);
-    LOOK(bad.feed(two).error().what == NDEF_BAD_ARGUMENT &&
-         ndef::message::check(two, none).error().what == NDEF_BAD_ARGUMENT);
-}
-
 struct counted {
     explicit counted(int number) : value(std::make_unique<int>(number)) {}
     std::unique_ptr<int> value;
@@ -186,9 +163,7 @@ static void results() {
          bad.value_or(9) == 9);
     *good = 5;
     LOOK(*good == 5 && good.transform([](int value) { return value + 0.5; }).value_or(0) == 5.5);
-    LOOK(bad.error().what == NDEF_BUFFER_TOO_SMALL && bad.error().needed == 7 &&
-         bad.transform([](int value) { return value; }).error().needed == 7);
-    LOOK(bad.and_then([](int value) { return number(value); }).error().needed == 7);
+    LOOK(bad.error().what == NDEF_BUFFER_TOO_SMALL && bad.error().needed == 7);
     LOOK(!good.and_then([](int) { return number(ndef::error{}); }) &&
          good.and_then([](int value) { return number(value * 2); }).value_or(0) == 10);
     ndef::result<counted> held = counted(4);
@@ -198,78 +173,26 @@ static void results() {
          none.sentence().empty());
     const octets reserved{0xd7};
     LOOK(ndef::message::check(reserved).error().sentence() == "The type name format 7 is reserved.");
+    LOOK(good.value() == 5 && (good.value() = 6) == 6 && number(7).value() == 7);
+#ifdef __cpp_exceptions
+    bool is_thrown = false;
+    try {
+        bad.value();
+    } catch (const ndef::bad_result_access &why) {
+        is_thrown = why.error().needed == 7 && std::string(why.what()) == "an ndef::result has no value";
+    }
+    LOOK(is_thrown);
+#endif
+    const auto fewer = [](ndef::error why) { why.needed--; return why; };
+    LOOK(good.transform_error(fewer) == good && bad.transform_error(fewer).error().needed == 6 && number(bad).transform_error(fewer) != bad);
+    LOOK(number(7).transform_error(fewer) == number(7));
+    const auto differs = [](auto change) { ndef::error one; change(one); return one != ndef::error{}; };
+    LOOK(differs([](ndef::error &one) { one.what = NDEF_END; }) && differs([](ndef::error &one) { one.why = NDEF_REASON_UTF8; }) &&
+         differs([](ndef::error &one) { one.place = 1; }) && differs([](ndef::error &one) { one.needed = 1; }) &&
+         differs([](ndef::error &one) { one.record = 1; }) && differs([](ndef::error &one) { one.which = ndef::argument::format; }));
+    LOOK(good == number(6) && good != number(7) && good != bad && bad == number(bad) && bad != number(ndef::error{}));
     const ndef::result<std::string> text = std::string("kept");
     LOOK(text->size() == 4 && *text == "kept");
-}
-
-/// The sentences are those of docs/EXPLAIN.md and test/explain/rows.txt.
-static void sentences() {
-    const octets late = {0xd1, 1, 6, 'T', 0x3f, 'a', 'b', 'c', 'd', 'e'}, good = {0xd0, 0, 0, 0xff};
-    LOOK(ndef::why(late) == "The language code has 63 octets; 5 are left in the payload." && !ndef::hint(late));
-    const octets size = {0xd1, 2, 12, 'S', 'p', 0x91, 1, 2, 'U', 3, 'a', 0x51, 1, 2, 's', 1, 2};
-    LOOK(ndef::why(size) == "A size (`s`) has 4 octets; 2 were given.");
-    const octets after = {1, 0xd0, 0, 0}, code = {0xd1, 1, 5, 'U', 'h', 't', 't', 'p'};
-    LOOK(ndef::why(after) == ndef::sentence(NDEF_REASON_BEGIN_MISSING));
-    LOOK(ndef::hint(after) == "The bytes may begin with what surrounds a message on a tag; a message begins at byte 1.");
-    LOOK(ndef::hint(code) == "68 (hexadecimal) is the letter h: was the identifier code left out?");
-    const octets reserved = {0xd7, 0, 0};
-    LOOK(ndef::hint(reserved) == "The standard profile reads this (`--profile standard`, in C NDEF_STANDARD).");
-    ndef::limits standard, opaque, none;
-    standard.flags = NDEF_STANDARD, opaque.flags = NDEF_OPAQUE, none.records = 0;
-    LOOK(!ndef::why(good) && !ndef::hint(good) && !ndef::why(reserved, standard) && !ndef::hint(reserved, standard));
-    for (const ndef::limits &limits : {opaque, none}) LOOK(!ndef::why(late, limits) && !ndef::hint(after, limits));
-}
-
-/// Whether the hint for some bytes has these numbers, and a text that is the sentence of the library where that names no command.
-static bool hints(const octets &of, ndef::hint_kind kind, ndef_size place, ndef_size size, bool is_plain) {
-    const std::optional<ndef::found_hint> found = ndef::find_hint(of);
-    return found && found->kind == kind && found->place == place && found->size == size &&
-           (found->text() == ndef::hint(of)) == is_plain && found->text().find("--") == std::string::npos;
-}
-
-/// The kinds and the places are those of test/faces/hints.txt.
-static void found_hints() {
-    const auto spelled = [](const char *text) { return octets(text, text + std::char_traits<char>::length(text)); };
-    const octets message = {0xd1, 1, 2, 'T', 0, 'a'}, attributes = {16, 4, 1, 0, 13, 0, 0, 0, 0, 0, 1, 0, 0, 6, 0, 41};
-    const auto before = [&message](octets front) {
-        front.insert(front.end(), message.begin(), message.end());
-        return front;
-    };
-    const octets tag = before({4, 17, 34, 191, 51, 68, 85, 102, 68, 72, 0, 0, 0xe1, 0x10, 0x12, 0, 3, 6});
-    LOOK(hints(tag, NDEF_HINT_TLV, 18, 6, false) && hints({0xe1, 0x10, 0x12, 0, 3, 0, 0xfe}, NDEF_HINT_TLV, 6, 0, true));
-    LOOK(hints(before(attributes), NDEF_HINT_ATTRIBUTES, 16, 6, false) && hints(before({0, 6}), NDEF_HINT_FILE, 2, 6, false));
-    LOOK(hints(before({1}), NDEF_HINT_MESSAGE, 1, 0, false) && hints(before({0xfe}), NDEF_HINT_TERMINATOR, 0, 0, true));
-    LOOK(hints(spelled("D1 01"), NDEF_HINT_DIGITS, 0, 0, false) && hints(spelled("00000000: d101"), NDEF_HINT_XXD, 0, 0, false));
-    LOOK(hints(spelled("00000000  d1"), NDEF_HINT_HEXDUMP, 0, 0, false) && hints(spelled("0000000 01d1"), NDEF_HINT_WORDS, 0, 0, false));
-    LOOK(hints(spelled("Filetype: Flipper NFC device"), NDEF_HINT_FLIPPER, 0, 0, false));
-    LOOK(hints(spelled("[=] 0/0x00 | 04"), NDEF_HINT_PROXMARK, 0, 0, false) && hints(spelled("0QEIVA=="), NDEF_HINT_BASE64, 0, 0, false));
-    LOOK(hints({0xd1, 1, 5, 'U', 'h', 't', 't', 'p'}, NDEF_HINT_CODE, 0, 0, true) && hints({0xd7, 0, 0}, NDEF_HINT_STANDARD, 0, 0, false));
-    LOOK(ndef::find_hint(tag)->text() ==
-         "A message of length 6 may begin at byte 18, in an NDEF TLV of a tag: read `ndef::bytes(input).part(18, 6)`.");
-    LOOK(ndef::bytes(tag).part(18, 6) == ndef::bytes(message) && ndef::message::check(ndef::bytes(tag).part(18, 6)));
-    LOOK(ndef::find_hint(before({1}))->text().find(": read `ndef::bytes(input).from(1)`.") != std::string::npos);
-    ndef::limits standard;
-    standard.flags = NDEF_STANDARD;
-    const octets reserved = {0xd7, 0, 0};
-    LOOK(!ndef::find_hint(message) && !ndef::find_hint(octets()) && !ndef::find_hint(reserved, standard));
-    LOOK(ndef::found_hint{}.text().empty());
-}
-
-/// The remarks are those of docs/EXPLAIN.md and test/explain/rows.txt.
-static void remarks() {
-    const octets reserved = {3}, open = {2}, line = {'a', '\n'}, size = {0, 0, 0, 3};
-    const auto of_field = [](ndef::field_name name, ndef::bytes of) { return ndef::field_warning({of, 0, 0, name}).value_or(""); };
-    LOOK(of_field(NDEF_FIELD_ACTION, reserved) == "The action 3 is reserved." && of_field(NDEF_FIELD_ACTION, open).empty());
-    LOOK(of_field(NDEF_FIELD_URI_REST, line) == "The URI has a control character." && of_field(NDEF_FIELD_TEXT, line).empty());
-    LOOK(of_field(NDEF_FIELD_PAYLOAD_LENGTH, size) ==
-         "The payload length 3 fits one octet (SR): the message could be 3 bytes shorter.");
-    LOOK(!ndef::field_warning({}) && !ndef::field_warning({reserved, 0, 0, NDEF_FIELD_TEXT}));
-    const octets twice = {0x9d, 0, 0, 1, 'a', 0x1d, 0, 0, 1, 'b', 0x5d, 0, 0, 1, 'a'};
-    const std::string again = "Another record has the same id.";
-    LOOK(ndef::record_warning(twice, 0) == again && !ndef::record_warning(twice, 1) && ndef::record_warning(twice, 2) == again);
-    LOOK(!ndef::record_warning(twice, 3) && !ndef::record_warning(ndef::bytes(twice.data(), 14), 0) && !ndef::record_warning({}, 0));
-    const octets request = {0xd1, 2, 8, 'H', 'r', 0x12, 0xd1, 2, 2, 'c', 'r', 0x12, 0x34};
-    LOOK(ndef::record_warning(request, 0) == "The request has no alternative carrier (`ac`).");
 }
 
 static void views_of_bytes() {
@@ -357,15 +280,15 @@ static void aliasing() {
 /// A message of 1 MB of payload, read, checked in parts, and written; and one of 1024 records.
 static void large() {
     const std::string payload(1048576 - 3, 'a');
-    static std::uint8_t room_of_2_mb[1 << 21];
-    ndef::buffer buffer(room_of_2_mb);
+    static std::uint8_t memory_of_2_mb[1 << 21];
+    ndef::buffer buffer(memory_of_2_mb);
     const auto text = ndef::write_text(buffer, "en", payload);
     const auto message =
         ndef::write_message(buffer, {{NDEF_TNF_WELL_KNOWN, "T", *text, "", 65536, false}, ndef::new_record()})
             .value_or(ndef::message());
     LOOK(message.octets().size() == 0);
-    static std::uint8_t room_of_3_mb[3 << 20];
-    ndef::buffer larger(room_of_3_mb);
+    static std::uint8_t memory_of_3_mb[3 << 20];
+    ndef::buffer larger(memory_of_3_mb);
     const auto whole =
         *ndef::write_message(larger, {{NDEF_TNF_WELL_KNOWN, "T", *text, "", 65536, false}, ndef::new_record()});
     LOOK(whole.begin()->chunks() == 16 && whole.begin()->payload_size() == 1048576 && whole.record_count() == 2);
@@ -409,8 +332,43 @@ static void threads() {
     for (const bool holds : held) LOOK(holds);
 }
 
+/// What a program asks of a result that it holds no longer, of an array of its own, of a text in UTF-16, and of the long form.
+static void asked_one_by_one() {
+    using number = ndef::result<int>;
+    const auto twice = [](int value) { return number(2 * value); };
+    const auto plus = [](int value) { return value + 1; };
+    ndef::error whole;
+    whole.what = NDEF_REFUSED, whole.why = NDEF_REASON_UTF8, whole.place = 1, whole.needed = 2, whole.record = 3, whole.which = ndef::argument::format;
+    const number bad = whole;
+    LOOK(number(whole).and_then(twice).error() == whole && bad.and_then(twice).error() == whole && *number(3).and_then(twice) == 6);
+    LOOK(number(whole).transform(plus).error() == whole && bad.transform(plus).error() == whole && *number(3).transform(plus) == 4);
+    const std::string hello("\xd1\x01\x08T\x02" "enHello", 12), wide("\x82" "en\xfe\xff\0H", 7);
+    ndef_field array[16];
+    ndef_limits wrong = ndef::limits();
+    wrong.flags = ~0u;
+    LOOK(ndef::fields::in(array, 1, hello).error().what == NDEF_BUFFER_TOO_SMALL && ndef::fields::in(array, 1, hello).error().needed == 7);
+    LOOK(ndef::fields::in(array, 16, hello, wrong).error().what == NDEF_BAD_ARGUMENT);
+    const auto fields = ndef::fields::in(array, 16, hello), none = ndef::fields::in(array, 16, ndef::bytes());
+    LOOK(fields->size() == 7 && fields->at(11)->at == 7 && !fields->at(12) && !fields->at(~ndef_size{0}) && !none->at(0));
+    std::uint8_t letters[8], written[32];
+    ndef::buffer converted(letters), to(written);
+    LOOK(*ndef::text::read(wide)->utf8(converted) == "H" && *ndef::text::read(ndef::bytes(hello).from(4))->utf8(converted) == "Hello");
+    const auto again = ndef::normalize(to, *ndef::message::check(hello), true);
+    LOOK(again->octets() == ndef::bytes(std::string("\xc1\x01\0\0\0\x08T\x02" "enHello", 15)));
+    int calls = 0;
+    const auto failing = [&](ndef::buffer &) -> ndef::result<ndef::bytes> {
+        ndef::error why{};
+        why.what = calls++ ? NDEF_BAD_ARGUMENT : NDEF_BUFFER_TOO_SMALL, why.needed = 1;
+        return why;
+    };
+    LOOK(ndef::detail::in_memory(failing).error().what == NDEF_BAD_ARGUMENT);
+    LOOK(ndef::links(*ndef::message::check(hello), ndef::bytes()).size() == 0);
+    const std::string carrier("\x01\x01" "0\0", 4), select("\x12", 1);
+    LOOK(ndef::alternative::read(carrier)->references().size() == 1 && ndef::links(*ndef::message::check(hello), select).size() == 0);
+}
+
 int main() {
-    for (const auto test : {records_asked_for, ranges, copies, two_of_each, results, sentences, found_hints, remarks, views_of_bytes, defaults, aliasing,
+    for (const auto test : {records_asked_for, ranges, copies, results, views_of_bytes, asked_one_by_one, defaults, aliasing,
                             large, threads})
         test();
     std::cout << "comparisons " << compared << ", differ " << differ << '\n';

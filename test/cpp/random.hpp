@@ -178,31 +178,4 @@ inline content outer(dice &dice) {
     }
 }
 
-/// A message, most of them whole; others with one byte changed, cut off or put in.
-inline octets random_message(dice &dice) {
-    std::vector<content> records;
-    for (std::size_t left = 1 + dice.below(5); left; left--) records.push_back(outer(dice));
-    octets made = message_of(records, true, dice);
-    const std::size_t at = dice.below(made.size());
-    switch (dice.below(8)) {
-    case 0: made[at] = dice.octet(); break;
-    case 1: made[at] = static_cast<std::uint8_t>(made[at] ^ (1u << dice.below(8))); break;
-    case 2: made.resize(at); break;
-    case 3: made.insert(made.begin() + static_cast<std::ptrdiff_t>(at), dice.octet()); break;
-    case 4: made = joined(made, dice.bytes(4)); break;
-    default: break;
-    }
-    return made;
-}
-
-/// The usual limits, or small ones; with both profiles, and with payloads that are looked into or not.
-inline ndef::limits random_limits(dice &dice) {
-    ndef::limits limits;
-    limits.flags = (dice.below(2) ? NDEF_STANDARD : 0) | (dice.below(4) ? 0 : NDEF_OPAQUE);
-    if (dice.below(6) == 0) limits.payload = static_cast<std::uint32_t>(1 + dice.below(20));
-    if (dice.below(6) == 0) limits.records = static_cast<std::uint32_t>(1 + dice.below(3));
-    if (dice.below(6) == 0) limits.chunks = static_cast<std::uint32_t>(1 + dice.below(3));
-    return limits;
-}
-
 #endif

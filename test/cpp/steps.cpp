@@ -102,9 +102,9 @@ static void random_messages(int count) {
         ndef::buffer other(space);
         const auto checked = ndef::write_message(other, of.records);
         ndef::message_writer<std::vector<ndef::new_record>> careful(of.records);
-        const auto told = in_steps(careful, dice, 20);
-        const bool agrees = checked ? bool(told) : !told && told.error().what == NDEF_REFUSED && told.error().record == checked.error().record
-            && told.error().place == checked.error().place && told.error().why == checked.error().why;
+        const auto got = in_steps(careful, dice, 20);
+        const bool agrees = checked ? bool(got) : !got && got.error().what == NDEF_REFUSED && got.error().record == checked.error().record
+            && got.error().place == checked.error().place && got.error().why == checked.error().why;
         wrong += !is_same || !agrees;
     }
     std::printf("%d random messages\n", count);

@@ -1,4 +1,4 @@
-// Programs that would read memory that is gone, one for each number in CASE from 1 to 12. None of them compiles. Case 0, which
+// Programs that would read memory that is gone, one for each number in CASE from 1 to 15. None of them compiles. Case 0, which
 // keeps what is looked at, does.
 #include "ndef.hpp"
 
@@ -46,5 +46,11 @@ int main() {
     const auto gone = ndef::fields(kept).begin();
 #elif CASE == 12
     const auto gone = ndef::links(*message, octets());
+#elif CASE == 13
+    const ndef::bytes gone("letters");
+#elif CASE == 14
+    const ndef::message_writer<std::vector<ndef::new_record>> gone(std::vector<ndef::new_record>{});
+#elif CASE == 15
+    const auto gone = ndef::links(*message, kept).begin();
 #endif
 }

@@ -21,15 +21,13 @@ OTHERS = {
     ('conformance/TESTING.md', 'go run main.go'): 'test/conformance/runners',
     ('conformance/README.md', 'cd crates/ndef_conformance'): PROVED,
     ('conformance/README.md', "grep '^tag-001 ' ../../conformance/cases.txt | rt run"): PROVED,
-    ('CONTRIBUTING.md', 'cd crates/ndef_conformance'): PROVED,
-    ('CONTRIBUTING.md', "grep '^tag-001 ' ../../conformance/cases.txt | rt run"): PROVED,
+    ('docs/RECIPES.md', 'cd crates/ndef_conformance'): PROVED,
+    ('docs/RECIPES.md', "grep '^tag-001 ' ../../conformance/cases.txt | rt run"): PROVED,
     ('bench/README.md', 'bench/run'): 'it measures for an hour; test/bench/run runs its parts',
     ('bench/README.md', 'bench/run --write'): 'it measures for an hour, and changes docs/PERFORMANCE.md; test/bench/run runs its parts',
-    ('ports/README.md', 'ports/run cortex-m3'): 'it needs the proof of all crates; the tests of dist/ compile the C file for that machine',
     ('ports/README.md', 'make amalgamation'): 'it needs the proof of all crates; test/dist/next makes the same files',
     ('ports/README.md', 'rt ci'): '.ci/run runs it',
     ('ports/README.md', 'make dist'): 'it changes dist/; test/dist/next makes the same files in another folder',
-    ('packaging/assembly.md', 'cc -c x86-64-linux.s -o ndef.o'): 'the file is in the archive of a release alone, which packaging/release makes',
 }
 # How a line begins that is a command, in a block that is indented. The rest of such a block is text, or what a synopsis says.
 COMMAND = re.compile(r'(?:[A-Z]+=\S+ )?(?:python3|node|cc|go|make|rt|cd|grep|pip|cmake|npm|cargo|\.?/?[a-z-]+/run|\./ndef\S*)(?: |$)')

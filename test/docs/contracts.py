@@ -1,9 +1,11 @@
-"""Tests of packaging/contracts: that its pages are what the sources give, and over a planted crate what it makes
-of each form of source, and that it finds a page that says something else."""
+"""Tests of packaging/contracts: what it makes of each form of source in a planted crate, and where the links of the pages of
+the crates lead."""
 import os
 import pathlib
 import subprocess
 import tempfile
+
+import names
 
 SOURCES = {
     'include/ndef.h': '''/* Tells
@@ -153,36 +155,38 @@ def answer(top, *words):
 
 
 def planted(top):
-    """What is wrong of the page of a planted crate, and of what `--check` says before and after."""
+    """What is wrong of the pages of a planted crate."""
     with tempfile.TemporaryDirectory() as folder:
-        for name, text in SOURCES.items():
+        for name, text in {**SOURCES, 'docs/contracts/gone.md': ''}.items():
             (pathlib.Path(folder) / name).parent.mkdir(parents=True, exist_ok=True)
             (pathlib.Path(folder) / name).write_text(text)
-        page, source = pathlib.Path(folder, 'docs/contracts/low.md'), pathlib.Path(folder, 'crates/low/src/lib.rt')
-        absent, made, good = answer(top, '--check', folder), answer(top, folder), answer(top, '--check', folder)
-        text, index = page.read_text(), pathlib.Path(folder, 'docs/CONTRACTS.md').read_text()
-        source.write_text('//\n' + source.read_text())
-        moved = answer(top, '--check', folder)
-        answer(top, folder)
-        page.with_name('gone.md').touch()
-        stale = answer(top, '--check', folder)
-        pages = sorted(path.name for path in page.parent.iterdir())
+        made = answer(top, folder)
+        pages = {path.name: path.read_text() for path in pathlib.Path(folder, 'docs/contracts').iterdir()}
+    text, index = pages.get('low.md', ''), pages.get('README.md', '')
     yield from (f'the page lacks {row!r}' for row in ROWS if row not in text)
     yield from (f'the page names {name}' for name in SILENT if name in text)
-    if '| [low](contracts/low.md) | What is low, and `a \\| b`. | 1 | 5 |\n\n' not in index:
+    if '| [low](low.md) | What is low, and `a \\| b`. | 1 | 5 |\n\n' not in index:
         yield f'the list of crates is {index}'
-    if pages != ['gone.md', 'low.md']:
-        yield f'the pages are {pages}'
-    said_and_wanted = ((absent, 1, 'low.md is not'), (made, 0, ''), (good, 0, ''), (moved, 1, 'low.md is not'),
-                       (stale, 1, 'gone.md is the'))
-    for said, status, part in said_and_wanted:
-        if said[0] != status or part not in said[1] or not part and said[1]:
-            yield f'status {said[0]}, says {said[1]!r} for {part!r}'
+    if set(pages) != {'low.md', 'README.md'} or made != (0, ''):
+        yield f'the pages are {list(pages)}; status and output {made}'
+
+
+def of_crates(top):
+    """What is wrong of the pages of the crates: each link of theirs leads to a file and a line."""
+    with tempfile.TemporaryDirectory() as folder:
+        for name in ('crates', 'crates.txt', 'include', 'docs/THEOREM.md'):
+            (pathlib.Path(folder) / name).parent.mkdir(exist_ok=True)
+            (pathlib.Path(folder) / name).symlink_to(top / name)
+        made = answer(top, folder)
+        pages = sorted(pathlib.Path(folder, 'docs/contracts').iterdir())
+        yield from (f'{page.name}: {link}' for page in pages for link in (*names.broken_links(pathlib.Path(folder), page), *names.moved_links(page)))
+    if made != (0, '') or len(pages) < 10:
+        yield f'{len(pages)} pages; status and output {made}'
 
 
 def typed(top):
     """What mypy says of the script and of the file that it imports."""
-    files = [top / 'packaging/contracts', top / 'packaging/contract_sources.py']
+    files = [top / 'packaging/contracts', top / 'packaging/docs/contract_sources.py']
     run = subprocess.run(['mypy', '--strict', '--scripts-are-modules', '--cache-dir', os.devnull, *files],
                          capture_output=True, text=True)
     yield from (run.stdout + run.stderr).splitlines() if run.returncode else ()
@@ -190,5 +194,5 @@ def typed(top):
 
 def all_tests(top):
     """The names of tests, and what each finds wrong."""
-    yield 'the list of contracts is what the sources give', answer(top, '--check')[1].splitlines()
-    yield 'a planted crate has the rows that it should, and --check finds what is wrong', planted(top)
+    yield 'the links of the pages of contracts resolve', of_crates(top)
+    yield 'a planted crate has the rows that it should', planted(top)

@@ -2,8 +2,8 @@
 import functools
 import re
 
-CODE = ('*.rt', '*.antt', '*.py', '*.h', '*.c', '*.hpp', '*.cpp', '*.rs', '*.go', '*.java', '*.js', '*.mjs', '*.map', 'ndef', 'ndef-make', 'ndef-explain', 'Makefile', '*.sh',
-        'crates.txt', 'machines.txt', 'run', 'release', 'Cargo.toml')
+CODE = ('*.rt', '*.antt', '*.py', '*.h', '*.c', '*.hpp', '*.cpp', '*.rs', '*.go', '*.java', '*.js', '*.mjs', '*.ts', '*.map', 'ndef', 'ndef-make', 'ndef-explain', 'Makefile', '*.sh',
+        'crates.txt', 'run', 'release', 'Cargo.toml')
 # Names of Rust's, of C's, of the kit's, of Debian's packages and of ndeflib's classes that pages use, and placeholders.
 FOREIGN = set('''
     rt git apt make dpkg-dev lintian clang ctypes clap cc strip simdutf8 hex itoa arrayvec smallvec byteorder thiserror anyhow
@@ -14,13 +14,11 @@ FOREIGN = set('''
     SignatureRecord HandoverMediationRecord HandoverInitiateRecord
 '''.split())
 # Names that releases before this one had, and the pages that may speak of them.
-FORMER = set('simbegyor-ndef-sys libsimbegyor-ndef0 OuterLanguage split_language read_text read_uri read_carrier NDEF_WRITE_ NDEF_OLD_NAMES NDEF_END_OF_INPUT NDEF_VERSION NDEF_UTF16 NDEF_EMPTY NDEF_MEDIA NDEF_FIRST NDEF_LAST NDEF_LONG '
-             'with_pieces UsualLimits FieldRemark usualLimits fieldRemark recordRemark '
-             'ndef_program ndef_make_tool ndef_explain_tool ndef_advice heads_are_apart fields_are_told places_are_told answers_are_told fronts_are_told '
-             'checkers_are_told decoders_are_told short_tells_messages Told Wanted wanted_at few_records Ending ending_text WordsError WordsFault read_words '
-             'strange_word over with LineOf Misuse Measure Shown words_fault output_is_told links_are_told misfits_are_true NdefBuilt NO_ROOM '
-             'edited_is_read ndef_make ndef_explain ndef_example ndef_own_language told lacks'.split())
-HISTORY = ('CHANGELOG.md', 'DECISIONS.md')
+FORMER = set('''
+    simbegyor-ndef-sys NDEF_WRITE_ NDEF_OLD_NAMES with_pieces UsualLimits FieldRemark usualLimits fieldRemark recordRemark ndef_advice over with NO_ROOM
+    told lacks
+'''.split())
+HISTORY = ('CHANGELOG.md', 'UPGRADING.md')
 
 
 def slug(heading):

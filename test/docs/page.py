@@ -62,7 +62,7 @@ def main(page, language, folder):
     place = pathlib.Path(folder)
     place.mkdir(parents=True, exist_ok=True)
     for name in ('include', 'out'):
-        if not (place / name).exists():
+        if not os.path.lexists(place / name):
             os.symlink(TOP / name, place / name)
     lines = list(wrong((TOP / page).read_text(), language, place))
     print(*lines, sep='\n', end='\n' if lines else '')

@@ -12,6 +12,8 @@ import sys
 import tempfile
 import time
 
+import harness
+
 STAND_IN = r'''#!/usr/bin/env bash
 case $1 in
 run)
@@ -127,7 +129,7 @@ def from_dist(copy):
 
 
 def from_another_dist(copy):
-    """Where a file of dist/ or a command is newer or missing, the commands are compiled anew."""
+    """Where a file of dist/ or a command is newer or missing, the commands are compiled again."""
     copy.run('ndef', 'show')
     said = 'ndef: compiling release %s of dist/, once'
     copy.release({'commands.c': COMMANDS.replace('dist %s', 'other %s')}, '9.8.8')
@@ -180,27 +182,27 @@ def with_compilers(copy):
 
 
 def library_from_dist(copy):
-    """packaging/from_dist compiles the library to an archive, with the flags, and says what it doesn't know."""
+    """packaging/build/from_dist compiles the library to an archive, and says what it doesn't know."""
     program = copy.folder / 'answer.c'
     program.write_text('#include "dist/ndef.h"\nint main(void) { return answer(); }\n')
-    for flags, answer in (([], 5), (['-DOTHER=7'], 7)):
-        run = copy.run('packaging/from_dist', 'library', copy.folder / 'out/made/libndef.a', *flags)
+    for flags, answer in ({}, 5), ({'CFLAGS': '-DOTHER=7'}, 7):
+        run = copy.run('packaging/build/from_dist', 'library', copy.folder / 'out/made/libndef.a', **flags)
         yield from expect(run, 0, '')
         subprocess.run(['cc', program, copy.folder / 'out/made/libndef.a', '-o', copy.folder / 'answer'], cwd=copy.folder)
         if subprocess.run([copy.folder / 'answer']).returncode != answer:
             yield f'{flags}: another answer'
         if [path.name for path in (copy.folder / 'out/made').iterdir()] != ['libndef.a']:
             yield 'other files are left beside the archive'
-    yield from expect(copy.run('packaging/from_dist', 'version'), 0, '9.8.7\n')
-    yield from expect(copy.run('packaging/from_dist', 'check', 'ndef.h', 'runtime.c'), 0, '')
+    yield from expect(copy.run('packaging/build/from_dist', 'version'), 0, '9.8.7\n')
+    yield from expect(copy.run('packaging/build/from_dist', 'check', 'ndef.h', 'runtime.c'), 0, '')
     (copy.folder / 'dist/ndef.h').write_text('int answer(int);\n')
     for words in (['check', 'runtime.c', 'ndef.h'], ['check', 'ndef.h', 'runtime.c'], ['library', copy.folder / 'out/other.a']):
-        yield from expect(copy.run('packaging/from_dist', *words), 3, '', "from_dist: dist/ndef.h isn't the file whose SHA-256 is in dist/SOURCE: "
+        yield from expect(copy.run('packaging/build/from_dist', *words), 3, '', "from_dist: dist/ndef.h isn't the file whose SHA-256 is in dist/SOURCE: "
                           "take dist/ from the release again, as by 'git checkout dist'")
-    yield from expect(copy.run('packaging/from_dist', 'check', 'none.c'), 3, '')
+    yield from expect(copy.run('packaging/build/from_dist', 'check', 'none.c'), 3, '')
     copy.release({'ndef.h': 'int answer(void);\n'}, '9.8.7')
     copy.program('failing', 'echo failing >&2\nexit 1\n')
-    yield from expect(copy.run('packaging/from_dist', 'library', copy.folder / 'out/none/libndef.a', AR='failing'), 3, '', 'failing')
+    yield from expect(copy.run('packaging/build/from_dist', 'library', copy.folder / 'out/none/libndef.a', AR='failing'), 3, '', 'failing')
     if (copy.folder / 'out/none/libndef.a').exists():
         yield 'an archive that ar did not make'
     # Where there is no sha256sum, as on macOS, shasum does it.
@@ -210,9 +212,9 @@ def library_from_dist(copy):
         (few / program).symlink_to(shutil.which(program))
     (few / 'shasum').write_text('#!/bin/sh\n[ "$*" = "-a 256" ] && exec %s\n' % shutil.which('sha256sum'))
     (few / 'shasum').chmod(0o755)
-    yield from expect(copy.run('packaging/from_dist', 'check', 'ndef.h', PATH=str(few)), 0, '')
-    yield from expect(copy.run('packaging/from_dist', 'check', 'none.h', PATH=str(few)), 3, '')
-    yield from expect(copy.run('packaging/from_dist'), 3, '', 'from_dist: say what to make: commands, library FILE FLAG.., version, or check FILE..')
+    yield from expect(copy.run('packaging/build/from_dist', 'check', 'ndef.h', PATH=str(few)), 0, '')
+    yield from expect(copy.run('packaging/build/from_dist', 'check', 'none.h', PATH=str(few)), 3, '')
+    yield from expect(copy.run('packaging/build/from_dist'), 3, '', 'from_dist: say what to make: commands, library FILE, version, or check FILE..')
 
 
 def not_from_dist(copy):
@@ -290,7 +292,7 @@ def built_once(copy):
     yield from says_only(copy.run('ndef', 'show'), 'ndef: crates/ has changed since it was proved here; running release 9.8.7 of dist/')
 
 
-def built_anew(copy):
+def built_again(copy):
     for script in SCRIPTS:
         copy.run(script, '--prove')
         for source in ('ndef_lang/src/main.rt', 'ndef_commands/src/main.rt', 'ndef_lang/specs/New.antt'):
@@ -308,7 +310,7 @@ def built_anew(copy):
         other = copy.folder / 'crates/ndef_c/src/main.rt'
         os.utime(other, (time.time() + 5, time.time() + 5))
         if copy.run(script, '--prove', has_rt=False).returncode:
-            yield f'{script}: an edit of ndef_c, on which it does not stand, builds it anew'
+            yield f'{script}: an edit of ndef_c, on which it does not stand, builds it again'
 
 
 def cost_is_said(copy):
@@ -335,13 +337,13 @@ def cost_is_said(copy):
         said = copy.run('ndef', '--prove').stderr
         if f'ndef: this takes {minutes}' not in said or ('5 GB of disk' in said) != ('some' in minutes):
             yield f'{seconds} seconds: {said!r}'
-    said = subprocess.run(['packaging/cost', 'ndef_commands', 'ndef_c'], cwd=copy.folder, capture_output=True, text=True).stderr
+    said = subprocess.run(['packaging/build/with_rt', 'cost', 'make', 'ndef_commands', 'ndef_c'], cwd=copy.folder, capture_output=True, text=True).stderr
     if 'make: proving and building the programs and the libraries, once' not in said:
-        yield f'packaging/cost says {said!r}'
+        yield f'with_rt cost says {said!r}'
 
 
 def crates_of(copy, *crates):
-    script = f'top={copy.folder}; . "$top/packaging/program.sh"; crates_of {" ".join(crates)}'
+    script = f'top={copy.folder}; . "$top/packaging/build/proofs.sh"; crates_of {" ".join(crates)}'
     return subprocess.run(['bash', '-c', script], capture_output=True, text=True).stdout.split()
 
 
@@ -372,7 +374,7 @@ def for_two_processors(copy):
     # What was changed would compile all the same.
     with (copy.folder / 'dist/commands-x86_64-v2-linux.s').open('a') as file:
         file.write('# changed\n')
-    yield from expect(copy.run('packaging/from_dist', 'commands'), 3, '', "from_dist: dist/commands-x86_64-v2-linux.s isn't the file whose SHA-256 is "
+    yield from expect(copy.run('packaging/build/from_dist', 'commands'), 3, '', "from_dist: dist/commands-x86_64-v2-linux.s isn't the file whose SHA-256 is "
                       "in dist/SOURCE: take dist/ from the release again, as by 'git checkout dist'")
     (copy.folder / 'dist/commands-x86_64-v2-linux.s').unlink()
     copy.release({}, '9.9.0')
@@ -396,33 +398,50 @@ def interrupted(copy):
 
 
 def made_of(copy):
-    """packaging/made_of says crates where both things are proved and newer than its sources, else dist."""
+    """packaging/build/crates_or_dist says crates where both things are proved and newer than its sources, else dist."""
     made = [copy.folder / 'crates' / name for name in ('ndef_commands/out/ndef_commands', 'ndef_c/out/libndef_c.a')]
     for path in made:
         path.parent.mkdir(parents=True, exist_ok=True)
         path.write_text('')
-    yield from expect(copy.run('packaging/made_of'), 0, 'crates\n')
+    yield from expect(copy.run('packaging/build/crates_or_dist'), 0, 'crates\n')
     for path in made:
         for is_old in (True, False):
             if is_old:
                 os.utime(path, (1, 1))
             else:
                 path.unlink()
-            yield from expect(copy.run('packaging/made_of'), 0, 'dist\n')
+            yield from expect(copy.run('packaging/build/crates_or_dist'), 0, 'dist\n')
         path.write_text('')
-    yield from expect(copy.run('packaging/made_of'), 0, 'crates\n')
+    yield from expect(copy.run('packaging/build/crates_or_dist'), 0, 'crates\n')
+
+
+def by_links(copy):
+    """A script that is called by a link in another folder, or by a link to that one, does what it does by its own name."""
+    links = copy.folder / 'links'
+    links.mkdir()
+    for script in SCRIPTS:
+        wanted = copy.run(script, '--try', 'a')
+        (links / script).symlink_to(copy.folder / script)
+        (links / 'again').unlink(missing_ok=True)
+        (links / 'again').symlink_to(script)
+        for name in ('links/' + script, 'links/again'):
+            got = copy.run(name, '--try', 'a')
+            if (got.returncode, got.stdout) != (wanted.returncode, wanted.stdout) or not wanted.stdout:
+                yield f'{name} to {script}: {got.returncode} {got.stdout!r} {got.stderr!r}'
 
 
 # Words of each script, and what it says then that it reads from a terminal. Of `ndef` the program says so.
-READS = {('ndef', 'show'): None, ('ndef', '--help'): None, ('ndef',): None, ('ndef-make', 'text', 'x'): None, ('ndef-make', 'uri', 'x'): None,
-         ('ndef-make', '--help'): None, ('ndef-make', 'text', 'media', '--hex'): None,
+READS = {**{(script, word): None for script in SCRIPTS for word in ('--help', '--version')},
+         ('ndef', 'show'): None, ('ndef',): None, ('ndef-make', 'text', 'x'): None, ('ndef-make', 'uri', 'x'): None, ('ndef-make', 'text', 'media', '--hex'): None,
          ('ndef-make', 'record', '--tnf', '5'): 'the payload of the record',
          ('ndef-make', 'carrier', '--format', '1', '--type', 'a'): 'the payload of the record',
          ('ndef-make', 'text', 'x', '--and', 'record', '--tnf', '5'): 'the payload of the record', ('ndef-explain', '--hex'): 'messages',
-         ('ndef-explain',): 'messages', ('ndef-explain', '-'): 'messages', ('ndef-explain', '--json', 'tag'): None, ('ndef-explain', '--help'): None}
+         ('ndef-explain',): 'messages', ('ndef-explain', '-'): 'messages', ('ndef-explain', '--json', 'tag'): None}
 
 
 def on_a_terminal(copy):
+    if not harness.has('pseudo-terminals'):
+        return
     for script in SCRIPTS:
         copy.run(script, '--prove')
     terminal, end = pty.openpty()
@@ -441,11 +460,11 @@ def on_a_terminal(copy):
 def all_tests(top):
     """The name of each test, and what is wrong."""
     tests = {'the scripts compile dist/ once, and say that they run it': from_dist,
-             'the scripts compile dist/ anew where a file of it is newer or a command is missing': from_another_dist,
+             'the scripts compile dist/ again where a file of it is newer or a command is missing': from_another_dist,
              'the scripts compile the commands for two processors, where dist/ has both, and run those for this one': for_two_processors,
              'the scripts compile dist/ with the compiler that CC names, or the first that is there': with_compilers,
-             'packaging/from_dist compiles the library and looks at sums': library_from_dist,
-             'packaging/made_of says of what things are made': made_of,
+             'packaging/build/from_dist compiles the library and looks at sums': library_from_dist,
+             'packaging/build/crates_or_dist says of what things are made': made_of,
              './ndef says why it does not compile dist/, with status 3': not_from_dist,
              'the scripts say what is missing without rt': without_rt,
              '--try runs the programs unproved, with their status': unproved,
@@ -453,10 +472,11 @@ def all_tests(top):
              'the scripts run unproved where --try is the first word alone': try_comes_first,
              './ndef --try ends with 3 where the program can not run': unproved_and_broken,
              './ndef --prove proves and builds once, and says what it costs and how far it is': built_once,
-             '--prove proves and builds anew after an edit of a source, and after no other': built_anew,
+             '--prove proves and builds again after an edit of a source, and after no other': built_again,
              '--prove says what is left, by the table of processor seconds': cost_is_said,
              './ndef-make --prove shows why nothing is proved, with status 3': not_proved,
              './ndef --prove says that an interrupted or ended run goes on': interrupted,
+             'a link to a script does what the script does': by_links,
              'the scripts say on a terminal that they read, and what': on_a_terminal}
     for name, run in tests.items():
         with tempfile.TemporaryDirectory() as folder:

@@ -40,7 +40,7 @@ def wrong():
     sources, cargo, maven = of_sources(version), version.replace('.dev', '-dev'), version.replace('.dev', '-SNAPSHOT')
     man = {f'packaging/man/{name}.1': '\nThis page is of Simbegyor @VERSION@,' for name in ('ndef', 'ndef-make', 'ndef-explain')}
     wanted = {'Makefile': '$(shell cat VERSION)', **man,
-              'packaging/ndef.pc.in': 'Version: @VERSION@', 'packaging/control.in': 'Version: @VERSION@',
+              'packaging/c/ndef.pc.in': 'Version: @VERSION@', 'packaging/debian/one/control.in': 'Version: @VERSION@',
               'bindings/python/METADATA.in': 'Version: @VERSION@', 'packaging/npm/package.json.in': '"version": "@VERSION@"',
               'CHANGELOG.md': '\n## Unreleased\n' if version.endswith('.dev') else f'\n## {version} - ',
               'bindings/java/pom.xml': f'\n  <version>{maven}</version>\n', 'bindings/java/build.gradle.kts': f'\nversion = "{maven}"\n',
@@ -60,7 +60,7 @@ def wrong():
     module = TOP / 'out/python/simbegyor_ndef/__init__.py'
     made = of_dist()['version'] if module.exists() and is_of_dist() else version
     if module.exists() and f"__version__ = '{made.replace('.dev', '.dev0')}'" not in module.read_text():
-        yield 'out/python has another version: make python makes it anew'
+        yield 'out/python has another version: make python makes it again'
 
 
 if __name__ == '__main__':

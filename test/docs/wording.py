@@ -17,9 +17,25 @@ INSTEAD = {
     r'so many': 'as many',
     r'put together by hand|never older': 'what the script that made the figure says',
 }
+# The same in pages. Other texts for users are in sources too, whose words change with these.
+IN_PAGES = {
+    r'alone': 'only',
+    r'anew': 'again',
+    r'sound': 'valid',
+    r'whoever': 'who, or those who',
+    r'mend(?:s|ed|ing)?': 'fix',
+    r"(?:program|one)'s own": 'your own, or a program\'s',
+    r'(?:says?|said) of': 'say about, or on',
+    r'(?:is|are) no (?:message|record|payload|handover|poster|fault|digit|hexadecimal)': "isn't a",
+    r'so (?:does|do|is|are|has|have) (?:the|a|an|its|each|all)': 'too, or one sentence for both',
+    r'but for': 'except',
+    r'in place of': 'instead of',
+    r'and (?:its|their) kin': 'and the like',
+    r'where no `* ?is': 'without',
+}
 SUCH_AS = re.compile(r'[,:] as (?:an? )?(?:`[^`]*`|"[^"]*"|[\w.]+[/:][\w.]+)(?! (?:does|lays|prints|says?|writes|gives|and)\b)|, as\n\.Q')
-# CHANGELOG.md names what earlier releases said, and docs/CONTRACTS.md is made of the code's comments.
-EXEMPT = ('CHANGELOG.md', 'docs/CONTRACTS.md')
+# CHANGELOG.md names what earlier releases said.
+EXEMPT = ('CHANGELOG.md',)
 # Texts for users that are no pages, and what of each is read.
 OTHERS = {
     'include/*.h': r'/\*.*?\*/',
@@ -48,12 +64,12 @@ def prose(text):
 
 
 def is_read(name):
-    return (name.startswith('docs/') or name.endswith('README.md') or '/' not in name) and not name.startswith('docs/contracts/')
+    return (name.startswith('docs/') or name.endswith('README.md') or '/' not in name)
 
 
-def words(text):
+def words(text, instead=INSTEAD):
     """The words of a text that it should not have, with better ones."""
-    for pattern, better in INSTEAD.items():
+    for pattern, better in instead.items():
         yield from (f'{found.group()!r}, for {better}: {found.string[max(0, found.start() - 40):found.end() + 30]!r}'
                     for found in re.finditer(rf'\b(?:{pattern})\b', prose(text), re.I))
     yield from (f"', as', for 'such as': {found.group()!r}" for found in SUCH_AS.finditer(re.sub(r'^```.*?^```$', '', text, flags=re.M | re.S)))
@@ -61,10 +77,11 @@ def words(text):
 
 def wrong(name, text):
     """What is wrong of a page: words that it should not have, and a first paragraph that does not say for whom it is."""
-    if name.startswith('docs/') and name != 'docs/CONTRACTS.md' and not re.match(r'# [^\n]+\n\nFor ', text):
+    if name.startswith('docs/') and not re.match(r'# [^\n]+\n\nFor ', text):
         yield 'its first paragraph does not say for whom it is'
     if name not in EXEMPT:
-        yield from words(text)
+        # The files of a release stay as they are.
+        yield from words(text, INSTEAD if name.startswith('dist/') else INSTEAD | IN_PAGES)
 
 
 def others(top):

@@ -41,7 +41,7 @@ extern uint8_t coverage_marks[], coverage_marks_end[];
 int ndef_commands(void);
 
 static uint8_t input[MOST_INPUT], output[MOST_OUTPUT], nowhere;
-static size_t input_length, input_at, output_length, told_length, blocks, files, failing;
+static size_t input_length, input_at, output_length, error_length, blocks, files, failing;
 static const char *words[MOST_WORDS];
 static size_t words_count, words_length;
 static bool names_files, is_terminal;
@@ -110,7 +110,7 @@ ssize_t __wrap_write(int file, const void *bytes, size_t size);
 int __wrap_isatty(int file);
 int __wrap_open(const char *name, int how, ...);
 int __wrap_close(int file);
-int __wrap_statx(int folder, const char *name, int how, unsigned asked, struct statx *told);
+int __wrap_statx(int folder, const char *name, int how, unsigned asked, struct statx *out);
 off_t __wrap_lseek(int file, off_t by, int from);
 
 /* Gives at most as many bytes as asked for, often fewer; where `failing` says so, none and an error. */
@@ -128,7 +128,7 @@ ssize_t __wrap_read(int file, void *buffer, size_t size) {
 ssize_t __wrap_write(int file, const void *bytes, size_t size) {
     if (failing == 2 || fails_now(WRITE)) return errno = ENOSPC, -1;
     size_t taken = size > 1 && input_length % 5 == 0 ? size / 2 : size;
-    if (file != 1) return told_length += taken, (ssize_t)taken;
+    if (file != 1) return error_length += taken, (ssize_t)taken;
     if (taken > MOST_OUTPUT - output_length) taken = MOST_OUTPUT - output_length;
     if (taken == 0 && size != 0) return errno = ENOSPC, -1;
     memcpy(output + output_length, bytes, taken);
@@ -155,14 +155,14 @@ int __wrap_close(int file) {
 }
 
 /* Says what an open file is: a folder, or a file of bytes. */
-int __wrap_statx(int file, const char *name, int how, unsigned asked, struct statx *told) {
+int __wrap_statx(int file, const char *name, int how, unsigned asked, struct statx *out) {
     (void)asked;
     if ((file != INPUT_FILE && file != FOLDER) || *name != 0 || (how & AT_EMPTY_PATH) == 0) return errno = EBADF, -1;
     if (fails_now(LOOK)) return errno = EIO, -1;
-    memset(told, 0, sizeof *told);
-    told->stx_mask = STATX_BASIC_STATS;
-    told->stx_mode = file == FOLDER ? S_IFDIR | 0755 : S_IFREG | 0644;
-    told->stx_size = file == FOLDER ? 0 : input_length;
+    memset(out, 0, sizeof *out);
+    out->stx_mask = STATX_BASIC_STATS;
+    out->stx_mode = file == FOLDER ? S_IFDIR | 0755 : S_IFREG | 0644;
+    out->stx_size = file == FOLDER ? 0 : input_length;
     return 0;
 }
 
@@ -184,7 +184,7 @@ static void begin(const char *name) { words_count = words_length = 0, word(name)
 
 /* Runs the command with the words and the input. Its status is one of those listed. */
 static int run(void) {
-    input_at = output_length = told_length = 0;
+    input_at = output_length = error_length = 0;
     coverage_steps = 0;
     memset(calls, 0, sizeof calls);
     const size_t before = blocks;
@@ -195,7 +195,7 @@ static int run(void) {
     const bool is_faulty = failing != 0 || fails_at[ALLOCATION] + fails_at[READ] + fails_at[WRITE] + fails_at[LOOK] != 0;
     hold(status != 3 || is_faulty || names_files, "only a failing system ends with 3");
     const size_t printed = output_length > whole_length ? output_length : whole_length;
-    const uint64_t steps = coverage_steps / (input_length + printed + told_length + words_length + 4096);
+    const uint64_t steps = coverage_steps / (input_length + printed + error_length + words_length + 4096);
     if (steps > greatest) greatest = steps;
     hold(steps <= MOST_STEPS, "the steps are a multiple of the bytes");
     return status;

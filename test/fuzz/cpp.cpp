@@ -11,7 +11,7 @@
 /// again. The links of a handover are looked for among the records, so their steps are counted apart: the most for each byte and record.
 constexpr std::uint64_t most_steps = 500, most_link_steps = 20;
 
-static std::uint8_t joined_room[1 << 15], written_room[1 << 16];
+static std::uint8_t joined_memory[1 << 15], written_memory[1 << 16];
 static std::uint64_t seen, link_steps;
 
 static std::uint8_t message[1 << 14];
@@ -47,7 +47,7 @@ template <class Handover> static void read_handover(const Handover &handover, co
 }
 
 static void read_record(const ndef::record &record, const ndef::message &message, ndef::profile how) {
-    ndef::buffer buffer(joined_room);
+    ndef::buffer buffer(joined_memory);
     const auto payload = record.payload(buffer);
     hold(payload && payload->size() == record.payload_size(), "a payload has the length that its record tells");
     seen += record.id().size() + record.payload_string().size();
@@ -74,10 +74,10 @@ static void look_at(ndef::bytes bytes, ndef::profile how) {
     }
     hold(message->octets().size() == checked.place && message->record_count() == checked.records, "the extent is the library's");
     for (const ndef::record &record : *message) read_record(record, *message, how);
-    ndef::buffer buffer(written_room);
+    ndef::buffer buffer(written_memory);
     ndef_size count = 0;
-    hold(ndef_normalize(bytes.data(), bytes.size(), 0, written_room, sizeof written_room, &count) == NDEF_OK, "a message is written again");
-    const auto again = ndef::message::check(ndef::bytes(written_room, static_cast<std::size_t>(count)), limits);
+    hold(ndef_normalize(bytes.data(), bytes.size(), 0, written_memory, sizeof written_memory, &count) == NDEF_OK, "a message is written again");
+    const auto again = ndef::message::check(ndef::bytes(written_memory, static_cast<std::size_t>(count)), limits);
     hold(again && again->record_count() == checked.records, "what is written again is a message");
 }
 

@@ -85,9 +85,9 @@ function lookAt(bytes) {
         }
         if (checked.status === OK) assert.equal(end, checked.place);
         isTaken ||= flags === 0 && checked.status === OK;
-        const told = ndef.fields(bytes, { flags });
-        assert.equal(told.status, checked.status);
-        assert.equal(told.fields.reduce((at, field) => { assert.equal(field.at, at); return at + field.length; }, 0) <= bytes.length, true);
+        const found = ndef.fields(bytes, { flags });
+        assert.equal(found.status, checked.status);
+        assert.equal(found.fields.reduce((at, field) => { assert.equal(field.at, at); return at + field.length; }, 0) <= bytes.length, true);
     }
     return isTaken;
 }
@@ -126,9 +126,9 @@ function live(count) {
     let before = 0;
     for (let done = 0; done < count; done++) {
         const which = done % all.length, { checked, records } = decoded(all[which], 0);
-        const told = checked.place + records.length;
-        first[which] ??= told;
-        assert.equal(told, first[which], "a message is answered in another way than the first time");
+        const outcome = checked.place + records.length;
+        first[which] ??= outcome;
+        assert.equal(outcome, first[which], "a message is answered in another way than the first time");
         if (done === Math.floor(count / 10)) before = resident();
     }
     console.log(`${count} decodes, memory ${before} kB after a tenth, ${resident()} kB at the end`);

@@ -119,10 +119,10 @@ def live(count):
     for done in range(count):
         which = done % len(all_messages)
         records, error = decoded(all_messages[which])
-        told = len(records), error
+        outcome = len(records), error
         if done < len(all_messages):
-            first[which] = told
-        hold(told == first[which], 'a message is answered as the first time', all_messages[which])
+            first[which] = outcome
+        hold(outcome == first[which], 'a message is answered as the first time', all_messages[which])
         if done == count // 10:
             before = resident()
     print('%d decodes, memory %d kB after a tenth, %d kB at the end' % (count, before, resident()))

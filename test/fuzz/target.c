@@ -223,26 +223,26 @@ static void look_at_carrier(const uint8_t *payload, ndef_size length) {
 static void look_at_alternative(const uint8_t *payload, ndef_size length) {
     ndef_part *parts;
     ndef_size number;
-    ndef_alternative_parts told, again;
+    ndef_alternative_parts alternative, again;
     ndef_part part;
     ndef_checked why;
     struct made written;
     LIST(parts, number, ndef_references(payload, length, array, size, &count));
-    if (ndef_alternative(payload, length, &told, &why) != NDEF_OK) {
+    if (ndef_alternative(payload, length, &alternative, &why) != NDEF_OK) {
         HOLDS(ndef_references(payload, length, NULL, 0, &number) == NDEF_BAD_ARGUMENT);
         return;
     }
-    HOLDS(number == told.references && told.power <= 3 && told.references >= 1 && told.references <= 256);
-    for (uint32_t i = 0; i < told.references; i++) {
+    HOLDS(number == alternative.references && alternative.power <= 3 && alternative.references >= 1 && alternative.references <= 256);
+    for (uint32_t i = 0; i < alternative.references; i++) {
         HOLDS(ndef_reference(payload, length, i, &part) == NDEF_OK && is_within(part.at, part.length, length));
         HOLDS(part.at == parts[i].at && part.length == parts[i].length);
     }
-    HOLDS(ndef_reference(payload, length, told.references, &part) == NDEF_END);
-    MAKE(&written, ndef_write_alternative(told.power, payload, length, parts, told.references, buffer, size, &count));
+    HOLDS(ndef_reference(payload, length, alternative.references, &part) == NDEF_END);
+    MAKE(&written, ndef_write_alternative(alternative.power, payload, length, parts, alternative.references, buffer, size, &count));
     HOLDS(written.status == NDEF_OK && written.length <= length);
     HOLDS(memcmp(written.bytes + 1, payload + 1, written.length - 1) == 0);
     HOLDS(ndef_alternative(written.bytes, written.length, &again, &why) == NDEF_OK);
-    HOLDS(told.power == again.power && told.references == again.references);
+    HOLDS(alternative.power == again.power && alternative.references == again.references);
     discard(&written);
     free(parts);
 }
@@ -264,7 +264,7 @@ static void look_at_error(const uint8_t *payload, ndef_size length) {
 
 /* The titles of a poster and its media type are the records of these types. */
 static void look_at_titles(const uint8_t *payload, ndef_size length, uint32_t status) {
-    ndef_text_parts *titles, told, first;
+    ndef_text_parts *titles, text, first;
     ndef_size number, found = 0, at = 0;
     ndef_record record = { 0, 0, 0, 0, 0, 0, 0, 0, 0, 0, 0, 0 };
     ndef_checked why;
@@ -279,13 +279,13 @@ static void look_at_titles(const uint8_t *payload, ndef_size length, uint32_t st
     while (!record.last
            && ndef_find_type(payload, length, at, NDEF_TNF_WELL_KNOWN, (const uint8_t *)"T", 1, &record) == NDEF_OK) {
         const uint8_t *part = payload + record.payload_at;
-        HOLDS(found < number && ndef_text(part, record.payload_length, &told, &why) == NDEF_OK);
+        HOLDS(found < number && ndef_text(part, record.payload_length, &text, &why) == NDEF_OK);
         const ndef_text_parts *title = titles + found++;
-        HOLDS(title->language_at == record.payload_at + told.language_at);
-        HOLDS(title->text_at == record.payload_at + told.text_at && title->text_length == told.text_length);
-        HOLDS(title->language_length == told.language_length && title->utf16 == told.utf16);
-        HOLDS(ndef_title(payload, length, part + told.language_at, told.language_length, &first) == NDEF_OK);
-        HOLDS(first.language_at <= title->language_at && first.language_length == told.language_length);
+        HOLDS(title->language_at == record.payload_at + text.language_at);
+        HOLDS(title->text_at == record.payload_at + text.text_at && title->text_length == text.text_length);
+        HOLDS(title->language_length == text.language_length && title->utf16 == text.utf16);
+        HOLDS(ndef_title(payload, length, part + text.language_at, text.language_length, &first) == NDEF_OK);
+        HOLDS(first.language_at <= title->language_at && first.language_length == text.language_length);
         at = record.end;
     }
     HOLDS(found == number);
@@ -411,7 +411,7 @@ struct carriers {
 static struct carriers carriers_of(const uint8_t *payload, ndef_size length, ndef_size number) {
     struct carriers found = { NULL, NULL, 0, 0 };
     ndef_record record;
-    ndef_alternative_parts told;
+    ndef_alternative_parts alternative;
     ndef_checked why;
     found.alternatives = (ndef_alternative_writing *)filled((number + 1) * sizeof *found.alternatives, 0);
     found.references = (ndef_part *)filled((256 * number + 1) * sizeof *found.references, 0);
@@ -420,11 +420,11 @@ static struct carriers carriers_of(const uint8_t *payload, ndef_size length, nde
         const uint8_t *carrier = payload + 1 + record.payload_at;
         ndef_part *own;
         ndef_size many;
-        HOLDS(ndef_alternative(carrier, record.payload_length, &told, &why) == NDEF_OK);
+        HOLDS(ndef_alternative(carrier, record.payload_length, &alternative, &why) == NDEF_OK);
         LIST(own, many, ndef_references(carrier, record.payload_length, array, size, &count));
         found.alternatives[found.number].first = found.all;
         found.alternatives[found.number].references = many;
-        found.alternatives[found.number].power = told.power;
+        found.alternatives[found.number].power = alternative.power;
         for (ndef_size i = 0; i < many; i++, found.all++) {
             found.references[found.all].at = 1 + record.payload_at + own[i].at;
             found.references[found.all].length = own[i].length;
@@ -671,13 +671,13 @@ static int is_field(const ndef_field *one, const ndef_field *other) {
 /* A byte of a field is in it, and the next step leads to the one behind it; behind the last there is none. */
 static void look_at_field(const uint8_t *bytes, ndef_size length, const ndef_limits *limits, const ndef_field *fields,
                           ndef_size count, ndef_size index) {
-    ndef_field told;
+    ndef_field found;
     ndef_checked why;
     const ndef_size place = fields[index].at + index % fields[index].length;
-    HOLDS(ndef_field_at(bytes, length, limits, place, &told, &why) == NDEF_OK && is_field(&told, &fields[index]));
-    const uint32_t status = ndef_next_field(bytes, length, limits, &told, &why);
+    HOLDS(ndef_field_at(bytes, length, limits, place, &found, &why) == NDEF_OK && is_field(&found, &fields[index]));
+    const uint32_t status = ndef_next_field(bytes, length, limits, &found, &why);
     HOLDS((status == NDEF_OK) == (index + 1 < count));
-    HOLDS(is_field(&told, &fields[status == NDEF_OK ? index + 1 : index]));
+    HOLDS(is_field(&found, &fields[status == NDEF_OK ? index + 1 : index]));
     if (status != NDEF_OK) HOLDS(status == (uint32_t)(why.reason ? NDEF_REFUSED : NDEF_END));
 }
 

@@ -17,7 +17,7 @@ COPY = pathlib.Path(sys.argv[1])
 HEADER, NAMES, CRATE = 'include/ndef.h', 'include/ndef_names.h', 'crates/ndef_c/src/'
 WRITTEN = (HEADER, NAMES, 'packaging/share/interface.json', 'test/c/layout.c', 'bindings/python/simbegyor_ndef/_interface.py', 'bindings/web/interface.js',
            'docs/BINDINGS.md')
-FACES = ('C++', 'Python', 'Rust', 'JavaScript', 'Java', 'Go')
+FACES = ('C++', 'Python', 'JavaScript', 'Java', 'Go')
 END = '#include "ndef_names.h"'
 
 
@@ -74,7 +74,7 @@ def new_file(change=lambda text: text):
 
 
 def unreached(name):
-    return [f'{face} does not reach {name}: make the call, or say why not in packaging/interface_parts/reached.py' for face in FACES]
+    return [f'{face} does not reach {name}: make the call, or say why not in packaging/interface_parts/gaps.py' for face in FACES]
 
 
 def generated():
@@ -82,7 +82,7 @@ def generated():
     for path, said in (('bindings/web/interface.js', '    octet_sum_parts: { size: 16, members: { added: [0, 8], sum: [8, 4] } },'),
                        ('bindings/web/interface.js', '    ndef_octet_sum: "i32 i64 i32", // bytes, length, out'),
                        ('test/c/layout.c', 'AT(ndef_octet_sum_parts, sum, uint32_t, 8);'),
-                       ('docs/BINDINGS.md', '| ndef_octet_sum | yes | ? | ? | ? | ? | ? | ? |')):
+                       ('docs/BINDINGS.md', f'| No reason is said. | {", ".join(FACES)}: ndef_octet_sum |')):
         count(f'{path} has {said.strip()!r}', f'{said}\n' in read(path))
     described = json.loads(read('packaging/share/interface.json'))
     call = next(call for call in described['calls'] if call['name'] == 'ndef_octet_sum')
@@ -90,16 +90,16 @@ def generated():
           [one['role'] for one in call['parameters']] == ['array', 'length', 'out'] and call['text'].startswith('Adds up octets, for `NdefOctetSum`'), call)
     python = ('import importlib.util as i, ctypes; s = i.spec_from_file_location("m", "bindings/python/simbegyor_ndef/_interface.py")\n'
               'm = i.module_from_spec(s); s.loader.exec_module(m); print(ctypes.sizeof(m.OctetSumParts), m.OctetSumParts.sum.offset, m.Calls.octet_sum)')
-    told = run(sys.executable, '-c', python).stdout
-    count('Python has the struct and the call', told.startswith('16 8 <function Calls.octet_sum'), told)
-    told = run(os.environ.get('CC', 'cc'), '-fsyntax-only', '-Iinclude', 'test/c/layout.c')
-    count('the layouts compile', told.returncode == 0, told.stdout)
+    printed = run(sys.executable, '-c', python).stdout
+    count('Python has the struct and the call', printed.startswith('16 8 <function Calls.octet_sum'), printed)
+    result = run(os.environ.get('CC', 'cc'), '-fsyntax-only', '-Iinclude', 'test/c/layout.c')
+    count('the layouts compile', result.returncode == 0, result.stdout)
     if harness.has('cargo'):
-        told = run('cargo', 'check', '--offline', cwd=COPY / 'bindings/rust', env={**os.environ, 'DOCS_RS': '1', 'CARGO_TARGET_DIR': str(COPY / 'target')})
-        count('the declarations of Rust compile', told.returncode == 0, told.stdout)
+        result = run('cargo', 'check', '--offline', cwd=COPY / 'bindings/rust', env={**os.environ, 'DOCS_RS': '1', 'CARGO_TARGET_DIR': str(COPY / 'target')})
+        count('the declarations of Rust compile', result.returncode == 0, result.stdout)
     if harness.has('node'):
-        told = run('node', '--check', 'bindings/web/interface.js')
-        count('node reads the tables for JavaScript', told.returncode == 0, told.stdout)
+        result = run('node', '--check', 'bindings/web/interface.js')
+        count('node reads the tables for JavaScript', result.returncode == 0, result.stdout)
 
 
 def added_call():
@@ -160,8 +160,8 @@ def spelled():
             ('a member of 64 bits in a struct of the same size everywhere', [octet_sum(('added: usize', 'added: u64'), ('    pub sum', '    pub rest: u32,\n    pub sum'))],
              '    uint64_t added; /* the number'),
             ('a parameter that has another name in C', [words, kind], ' * It reads `type` once:\n'),
-            ('a length of an array that has another name', [words, kind], '(const uint8_t *type, ndef_size length, ndef_octet_sum_parts *out);'),
-            ('a call before the file of its struct', [new_file(), earlier], 'uint32_t ndef_adding(const uint8_t *bytes, ndef_size length, ndef_octet_sum_parts *out);')):
+            ('a length of an array that has another name', [words, kind], '(const uint8_t *type, ndef_size length, ndef_octet_sum_parts *out) NDEF_ANSWERS(3);'),
+            ('a call before the file of its struct', [new_file(), earlier], 'uint32_t ndef_adding(const uint8_t *bytes, ndef_size length, ndef_octet_sum_parts *out) NDEF_ANSWERS(3);')):
         with Edited(*edits):
             named = interface()
             compiled = run(os.environ.get('CC', 'cc'), '-fsyntax-only', '-Iinclude', 'test/c/layout.c')
@@ -186,7 +186,7 @@ def added_constants():
                                     '    NDEF_TOO_LARGE = 6     /* the sum is too large */\n};'),
                            (NAMES, 'X(4, END, "End") X(5, MORE, "More") X(6, TOO_LARGE, "TooLarge")\n'),
                            (HEADER, 'enum { NDEF_STANDARD = 1, NDEF_OPAQUE = 2, NDEF_SUM = 4 };\n'),
-                           (HEADER, 'const ndef_record *record, uint32_t within);\nenum { NDEF_TWICE = 1 };\n')):
+                           (HEADER, 'const ndef_record *record, uint32_t within) NDEF_ANSWERS(3);\nenum { NDEF_TWICE = 1 };\n')):
             count(f'{path} has {said!r}', said in read(path))
 
 

@@ -16,5 +16,5 @@ typedef struct ndef_octet_sum_parts {
  * NDEF_OK: `out` has the sum. It is 0 where each octet is 0, and it may be 0 where the octets are others, since only
  *   its lowest bits are kept.
  * NDEF_BAD_ARGUMENT: there are no octets. */
-uint32_t ndef_octet_sum(const uint8_t *bytes, ndef_size length, ndef_octet_sum_parts *out);
+uint32_t ndef_octet_sum(const uint8_t *bytes, ndef_size length, ndef_octet_sum_parts *out) NDEF_ANSWERS(3);
 

@@ -1,11 +1,6 @@
-import java.io.IOException;
-import java.nio.file.Files;
-import java.nio.file.Path;
-import java.util.ArrayList;
-import java.util.Arrays;
-import java.util.List;
+import java.nio.charset.StandardCharsets;
 
-/** What the programs here share: lines of the conformance suite, octets in hexadecimal, and counts. */
+/** What the programs here share: octets in hexadecimal, and counts. */
 final class Cases {
     private static int run;
     private static int failed;
@@ -45,19 +40,8 @@ final class Cases {
         System.exit(failed == 0 && run > 0 ? 0 : 1);
     }
 
-    /** The columns of each line of a file of the suite. */
-    static List<String[]> lines(Path folder, String name) throws IOException {
-        List<String[]> lines = new ArrayList<>();
-        for (String line : Files.readAllLines(folder.resolve(name))) {
-            if (!line.isBlank() && !line.startsWith("#")) {
-                String[] columns = Arrays.copyOf(line.split("\\|"), 11);
-                for (int i = 0; i < columns.length; i++) {
-                    columns[i] = columns[i] == null ? "" : columns[i].strip();
-                }
-                lines.add(columns);
-            }
-        }
-        return lines;
+    static byte[] bytes(String text) {
+        return text.getBytes(StandardCharsets.UTF_8);
     }
 
     static byte[] unhex(String column) {

@@ -26,6 +26,11 @@ final class Load {
         Cases.check("one checker", () -> threadsFeed(Math.max(5, rounds / 5000)));
         Cases.check("memory", () -> memoryIsFlat(rounds));
         Cases.check("one payload of 1 MB", () -> largePayload(1000000));
+        Cases.check("each length about the room of the native methods", () -> {
+            for (int length = 256; length < 530; length++) {
+                largePayload(length);
+            }
+        });
         Cases.check("many chunks", () -> manyChunks(4000, 240));
         Cases.check("many records", () -> manyRecords(words.length == 1 ? 60000 : 2000));
         Cases.check("many links", () -> manyLinks(300));
@@ -40,7 +45,7 @@ final class Load {
         HandoverSelect.Builder builder = HandoverSelect.builder(2);
         NdefRecord[] records = new NdefRecord[1 + carriers];
         for (int i = 0; i < carriers; i++) {
-            byte[] id = Suite.bytes(Integer.toString(i));
+            byte[] id = Cases.bytes(Integer.toString(i));
             builder.alternative(PowerState.values()[i % 4], id);
             records[1 + i] = NdefRecord.createMime("a/b", id).withId(id);
         }
@@ -84,7 +89,7 @@ final class Load {
     private static void threadsFeed(int rounds) throws Exception {
         int each = 500;
         byte[] head = Cases.unhex("c10100f42403" + "54" + "02656e");
-        byte[] letters = Suite.bytes("ü".repeat(2000));
+        byte[] letters = Cases.bytes("ü".repeat(2000));
         Limits limits = Limits.defaults().withPayload(16000003);
         ExecutorService threads = Executors.newFixedThreadPool(THREADS);
         CyclicBarrier begin = new CyclicBarrier(THREADS);
@@ -114,8 +119,8 @@ final class Load {
 
     /** The bytes of the resident pages of this process; -1 where the system doesn't give them. */
     private static long resident() throws Exception {
-        Path told = Path.of("/proc/self/statm");
-        return Files.exists(told) ? Long.parseLong(Files.readString(told).split(" ")[1]) * 4096 : -1;
+        Path statm = Path.of("/proc/self/statm");
+        return Files.exists(statm) ? Long.parseLong(Files.readString(statm).split(" ")[1]) * 4096 : -1;
     }
 
     private static long heap() {
@@ -213,7 +218,7 @@ final class Load {
     static SmartPoster poster(int count) {
         SmartPoster.Builder builder = SmartPoster.builder("http://www.example.com");
         for (int i = 0; i < count; i++) {
-            builder.title("l" + i, "title " + i).icon("image/" + i, Suite.bytes("data " + i));
+            builder.title("l" + i, "title " + i).icon("image/" + i, Cases.bytes("data " + i));
         }
         return builder.build();
     }

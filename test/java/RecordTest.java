@@ -9,7 +9,6 @@ import java.nio.charset.StandardCharsets;
 import java.util.Arrays;
 import java.util.List;
 import java.util.Locale;
-import java.util.Optional;
 import org.junit.jupiter.api.Test;
 import org.junit.jupiter.api.function.Executable;
 import org.simbegyor.ndef.*;
@@ -116,6 +115,7 @@ class RecordTest {
 
     @Test
     void uris() throws FormatException {
+        assertEquals("file:///I", Uri.parse("FILE:///I").normalizeScheme().toString());
         is(NdefRecord.createUri("http://www.example.com"), 1, "U", "\1example.com");
         is(NdefRecord.createUri("HTTP://www.example.com"), 1, "U", "\1example.com");
         is(NdefRecord.createUri(Uri.parse("urn:nfc:a")), 1, "U", "\43a");
@@ -272,6 +272,7 @@ class RecordTest {
         for (int index : new int[] {-1, 7, Integer.MAX_VALUE, Integer.MIN_VALUE}) {
             assertThrows(IndexOutOfBoundsException.class, () -> fields.get(index));
         }
+        assertThrows(IndexOutOfBoundsException.class, () -> Sentences.recordWarning(hello(), -1));
         assertEquals(Limits.defaults().hashCode(), Limits.defaults().withRecords(1024).hashCode());
         assertEquals(Uri.parse("a:b").hashCode(), Uri.parse("a:b").hashCode());
         SmartPoster poster = SmartPoster.builder("a:b").icon("image/png", bytes("x")).build();
@@ -334,84 +335,12 @@ class RecordTest {
         return records;
     }
 
-    private static NdefRecord wellKnown(String type, String payload) {
-        return new NdefRecord(NdefRecord.TNF_WELL_KNOWN, bytes(type), null, Cases.unhex(payload));
-    }
-
-    /** Which record is refused, where and why, both where the message is made and where its bytes are read. */
-    private static RecordException isRefused(int record, int place, Reason reason, NdefRecord... records) {
-        RecordException refusal = assertThrows(RecordException.class, () -> new NdefMessage(records));
-        byte[] written = NdefMessage.unchecked(records).toByteArray();
-        FormatException read = assertThrows(FormatException.class, () -> new NdefMessage(written));
-        assertEquals(List.of(record, (long) place, reason, reason),
-                List.of(refusal.record(), refusal.place(), refusal.reason(), read.reason()));
-        int begin = record == 0 ? 0 : NdefMessage.unchecked(Arrays.copyOf(records, record)).getByteArrayLength();
-        assertEquals(read.place(), begin + place);
-        assertEquals("record " + record + " is refused at " + place + ": " + reason.number() + " " + reason + ": "
-                + refusal.sentence(), refusal.getMessage());
-        return refusal;
-    }
-
-    @Test
-    void messagesThatNoReaderTakes() {
-        NdefRecord uri = NdefRecord.createUri("tel:1");
-        NdefRecord text = wellKnown("T", "");
-        isRefused(0, 3, Reason.DOES_NOT_FIT, text);
-        isRefused(1, 4, Reason.URI_CODE, uri, wellKnown("U", "24"), uri);
-        isRefused(2, 5, Reason.PAYLOAD_TOO_LARGE, uri, uri, new NdefRecord((short) 5, null, null, new byte[(1 << 20) + 1]));
-        // The last that there may be: its first octet says that another follows.
-        isRefused(1023, 0, Reason.TOO_MANY_RECORDS, times(1025, uri));
-        refuses(() -> new NdefMessage(uri, text));
-        refuses(text::toByteArray);
-        assertEquals(1024, new NdefMessage(times(1024, uri)).getRecords().length);
-    }
-
-    @Test
-    void aRefusedRecordHasASentence() {
-        NdefRecord uri = NdefRecord.createUri("tel:1");
-        Limits limits = Limits.defaults().withRecords(1).withOpaque(true);
-        assertEquals(Reason.TOO_MANY_RECORDS.sentence(), assertThrows(RecordException.class,
-                () -> NdefMessage.of(times(2, uri), limits, Profile.STRICT)).sentence());
-        assertEquals("A text (`T`) has at least 1 octet; 0 were given.",
-                isRefused(1, 3, Reason.DOES_NOT_FIT, uri, wellKnown("T", "")).sentence());
-    }
-
-    @Test
-    void messagesForOtherReaders() throws FormatException {
-        NdefRecord uri = NdefRecord.createUri("tel:1");
-        NdefRecord[] code = {wellKnown("U", "24"), uri};
-        NdefMessage standard = NdefMessage.of(code, Limits.defaults(), Profile.STANDARD);
-        byte[] written = standard.toByteArray();
-        assertEquals(standard, NdefMessage.parse(written, Limits.defaults(), Profile.STANDARD));
-        assertArrayEquals(written, NdefMessage.parse(written, Limits.defaults(), Profile.STANDARD).toByteArray(false, 0));
-        assertEquals(standard, NdefMessage.of(code, Limits.defaults().withOpaque(true), Profile.STRICT));
-        assertEquals(1025, NdefMessage.of(times(1025, uri), Limits.defaults().withRecords(1025), Profile.STRICT).getRecords().length);
-        assertThrows(RecordException.class, () -> NdefMessage.of(times(2, uri), Limits.defaults().withRecords(1), Profile.STRICT));
-        refuses(() -> NdefMessage.unchecked());
-        refuses(() -> NdefMessage.of(new NdefRecord[0], Limits.defaults(), Profile.STRICT));
-        isNull(() -> NdefMessage.of(null, Limits.defaults(), Profile.STRICT), () -> NdefMessage.of(code, null, Profile.STRICT),
-                () -> NdefMessage.of(code, Limits.defaults(), null), () -> NdefMessage.unchecked((NdefRecord) null));
-    }
-
-    @Test
-    void moreChunksThanAReaderTakes() throws FormatException {
-        NdefRecord record = new NdefRecord((short) 5, null, null, new byte[4097]);
-        NdefMessage message = new NdefMessage(record);
-        assertEquals(message, new NdefMessage(message.toByteArray(false, 2)));
-        RecordException refusal = assertThrows(RecordException.class, () -> message.toByteArray(false, 1));
-        assertEquals(Reason.TOO_MANY_PIECES, refusal.reason());
-        assertEquals(0, refusal.record());
-        byte[] bytes = NdefMessage.unchecked(record).toByteArray(false, 1);
-        assertEquals(refusal.place(), assertThrows(FormatException.class, () -> new NdefMessage(bytes)).place());
-        Limits limits = Limits.defaults().withChunks(4097);
-        assertArrayEquals(bytes, NdefMessage.of(new NdefRecord[] {record}, limits, Profile.STRICT).toByteArray(false, 1));
-        assertArrayEquals(bytes, NdefMessage.parse(bytes, limits, Profile.STRICT).toByteArray(false, 1));
-    }
-
     @Test
     void messagesThatThereAreNot() {
         NdefRecord record = NdefRecord.createUri("tel:1");
         refuses(() -> new NdefMessage(new NdefRecord[0]));
+        assertEquals("the bytes are null",
+                assertThrows(NullPointerException.class, () -> new NdefMessage((byte[]) null)).getMessage());
         isNull(() -> new NdefMessage((byte[]) null), () -> new NdefMessage((NdefRecord) null),
                 () -> new NdefMessage((NdefRecord[]) null), () -> new NdefMessage(new NdefRecord[] {record, null}),
                 () -> new NdefMessage(record, (NdefRecord) null), () -> new NdefMessage(record, (NdefRecord[]) null),
@@ -430,7 +359,7 @@ class RecordTest {
         assertEquals(4, refusal.place());
         assertEquals(Reason.TEXT_BIT, refusal.reason());
         assertEquals("Bit 6 of the status octet of a text is reserved: it has to be 0.", refusal.sentence());
-        assertEquals("refused at 4: 15 TextBit: " + refusal.sentence(), refusal.getMessage());
+        assertEquals("refused at 4: TextBit: " + refusal.sentence(), refusal.getMessage());
         byte[] longer = Arrays.copyOf(hello(), 13);
         refusal = assertThrows(FormatException.class, () -> new NdefMessage(longer));
         assertEquals(12, refusal.place());
@@ -441,72 +370,6 @@ class RecordTest {
         FormatException own = new FormatException();
         assertEquals("-1 null Another reason.", own.place() + " " + own.getMessage() + " " + own.sentence());
         assertEquals("mine", new FormatException("mine", refusal).sentence());
-    }
-
-    /** They are those of docs/EXPLAIN.md and test/explain/rows.txt. */
-    @Test
-    void remarks() {
-        byte[] twice = Cases.unhex("9d00000161" + "1d00000162" + "5d00000161");
-        assertThrows(IndexOutOfBoundsException.class, () -> Sentences.recordWarning(twice, -1));
-        Optional<String> again = Optional.of("Another record has the same id.");
-        Optional<String> none = Optional.empty();
-        assertEquals(List.of(again, none, again, none), List.of(Sentences.recordWarning(twice, 0),
-                Sentences.recordWarning(twice, 1), Sentences.recordWarning(twice, 2), Sentences.recordWarning(twice, 3)));
-        assertEquals(none, Sentences.recordWarning(Arrays.copyOf(twice, 14), 0));
-        List<Optional<String>> found = new java.util.ArrayList<>();
-        for (Field field : Fields.of(Cases.unhex("c1010000" + "00035504610a"))) {
-            found.add(Sentences.fieldWarning(field));
-        }
-        assertEquals(List.of(none, none,
-                Optional.of("The payload length 3 fits one octet (SR): the message could be 3 bytes shorter."), none, none,
-                Optional.of("The URI has a control character.")), found);
-    }
-
-    /** They are those of docs/EXPLAIN.md and test/explain/rows.txt. */
-    @Test
-    void sentences() {
-        byte[] late = Cases.unhex("d10106543f6162636465");
-        assertEquals("The language code has 63 octets; 5 are left in the payload.", Sentences.why(late).get());
-        assertEquals("A size (`s`) has 4 octets; 2 were given.",
-                Sentences.why(Cases.unhex("d1020c5370910102550361510102730102")).get());
-        byte[] after = Cases.unhex("01d101085402656e48656c6c6f");
-        assertEquals(Reason.BEGIN_MISSING.sentence(), Sentences.why(after).get());
-        assertEquals("The bytes may begin with what surrounds a message on a tag; a message begins at byte 1.",
-                Sentences.hint(after).get());
-        assertEquals("68 (hexadecimal) is the letter h: was the identifier code left out?",
-                Sentences.hint(Cases.unhex("d1010955687474703a2f2f6162")).get());
-        byte[] reserved = Cases.unhex("d7000161");
-        assertEquals("The standard profile reads this (`--profile standard`, in C NDEF_STANDARD).",
-                Sentences.hint(reserved).get());
-        for (Optional<String> none : List.of(Sentences.why(hello()), Sentences.hint(hello()), Sentences.hint(late),
-                Sentences.why(reserved, Limits.defaults(), Profile.STANDARD),
-                Sentences.hint(reserved, Limits.defaults(), Profile.STANDARD))) {
-            assertEquals(Optional.empty(), none);
-        }
-    }
-
-    /** The kinds and places are those of test/faces/hints.txt, which Suite.java reads. */
-    @Test
-    void hints() throws FormatException {
-        byte[] tag = Cases.unhex("e1101200030cd101085402656e48656c6c6ffe");
-        FoundHint found = Sentences.findHint(tag).get();
-        assertEquals("A message of length 12 may begin at byte 6, in an NDEF TLV of a tag: read `Arrays.copyOfRange(bytes, 6, 18)`.",
-                found.text());
-        assertEquals(new NdefMessage(hello()), new NdefMessage(Arrays.copyOfRange(tag, 6, 18)));
-        assertEquals("FoundHint TLV place=6 length=12", found.toString());
-        assertEquals(found, Sentences.findHint(tag.clone()).get());
-        assertEquals(found.hashCode(), Sentences.findHint(tag.clone()).get().hashCode());
-        FoundHint cut = Sentences.findHint(Arrays.copyOf(tag, 10)).get();
-        assertEquals("read `Arrays.copyOfRange(bytes, 6, 10)`.", cut.text().substring(cut.text().indexOf("read")));
-        assertNotEquals(found, cut);
-        FoundHint after = Sentences.findHint(Cases.unhex("01d00000")).get();
-        assertEquals("read `Arrays.copyOfRange(bytes, 1, 4)`.", after.text().substring(after.text().indexOf("read")));
-        byte[] reserved = Cases.unhex("d7000161");
-        assertEquals("The standard profile reads this: give `Profile.STANDARD`.", Sentences.findHint(reserved).get().text());
-        assertEquals(Optional.empty(), Sentences.findHint(reserved, Limits.defaults(), Profile.STANDARD));
-        assertEquals(Sentences.findHint(tag), Sentences.findHint(tag, Limits.defaults().withOpaque(true), Profile.STRICT));
-        isNull(() -> Sentences.findHint(null), () -> Sentences.findHint(tag, null, Profile.STRICT),
-                () -> Sentences.findHint(tag, Limits.defaults(), null));
     }
 
     /** The message of an exception says what is wrong, and a text of a record not all of its bytes. */
@@ -529,16 +392,6 @@ class RecordTest {
     }
 
     @Test
-    void sentencesWithinLimits() {
-        byte[] late = Cases.unhex("d10106543f6162636465");
-        assertEquals(Sentences.why(late), Sentences.why(late, Limits.defaults().withOpaque(true), Profile.STRICT));
-        assertEquals(Reason.PAYLOAD_TOO_LARGE.sentence(),
-                Sentences.why(hello(), Limits.defaults().withPayload(7), Profile.STRICT).get());
-        isNull(() -> Sentences.why(null), () -> Sentences.hint(null), () -> Sentences.why(late, null, Profile.STRICT),
-                () -> Sentences.hint(late, Limits.defaults(), null));
-    }
-
-    @Test
     void partsOfArrays() throws FormatException {
         byte[] twice = Cases.unhex("00d101085402656e48656c6c6fd00000");
         Prefix prefix = NdefMessage.parsePrefix(twice, 1, 15, Limits.defaults(), Profile.STRICT);
@@ -550,21 +403,6 @@ class RecordTest {
             {Integer.MAX_VALUE, 1}, {Integer.MIN_VALUE, 0}}) {
             assertThrows(IndexOutOfBoundsException.class,
                     () -> NdefMessage.parsePrefix(twice, wrong[0], wrong[1], Limits.defaults(), Profile.STRICT));
-        }
-    }
-
-    /** Chunks in a part of an array, and more records than short messages usually have: those before and after keep their places. */
-    @Test
-    void chunksAndManyRecords() throws FormatException {
-        byte[] chunked = Cases.unhex("ffff" + "b20302612f620102" + "56000103" + "ff");
-        NdefRecord record = NdefMessage.parsePrefix(chunked, 2, chunked.length - 2, Limits.defaults(), Profile.STRICT).message().getRecords()[0];
-        assertArrayEquals(new byte[] {1, 2, 3}, record.getPayload());
-        for (int count : new int[] {23, 24, 25, 100, 170, 171, 1024}) {
-            NdefRecord[] records = times(count, new NdefRecord((short) 0, null, null, null));
-            records[count - 1] = NdefRecord.createTextRecord("en", "last");
-            NdefMessage read = new NdefMessage(new NdefMessage(records).toByteArray());
-            assertArrayEquals(records, read.getRecords());
-            assertEquals("last", ((TextRecord) read.getRecords()[count - 1].decode()).text());
         }
     }
 
@@ -580,44 +418,6 @@ class RecordTest {
         Limits most = Limits.defaults().withPayload(4294967295L).withRecords(65535).withChunks(65535).withOpaque(true);
         assertEquals("Limits payload=4294967295 records=65535 chunks=65535 opaque", most.toString());
         assertEquals(1, NdefMessage.parse(Cases.unhex("d10101 54 ff"), most, Profile.STRICT).getRecords().length);
-    }
-
-    @Test
-    void checksInParts() throws FormatException {
-        Checker checker = new Checker();
-        ByteBuffer buffer = ByteBuffer.wrap(Cases.unhex("d101085402656e48656c6c6f ffff"));
-        assertEquals(false, checker.feed(buffer.limit(5)));
-        assertEquals("5 0 5", checker.length() + " " + checker.records() + " " + buffer.position());
-        assertEquals(true, checker.feed(buffer.limit(14)));
-        assertEquals("12 1 12", checker.length() + " " + checker.records() + " " + buffer.position());
-        assertEquals(true, checker.feed(buffer));
-        assertEquals(12, buffer.position());
-        Checker mixed = new Checker();
-        ByteBuffer rest = ByteBuffer.wrap(Cases.unhex("085402656e48656c6c6f ffff"));
-        assertEquals(false, mixed.feed(Cases.unhex("d101")));
-        assertEquals(true, mixed.feed(rest));
-        assertEquals("12 10", mixed.length() + " " + rest.position());
-        Checker refused = new Checker(Limits.defaults().withPayload(7), Profile.STRICT);
-        for (int i = 0; i < 2; i++) {
-            assertEquals(2, assertThrows(FormatException.class, () -> refused.feed(hello())).place());
-        }
-        isNull(() -> new Checker().feed((ByteBuffer) null), () -> new Checker().feed((byte[]) null),
-                () -> new Checker(null, Profile.STRICT));
-    }
-
-    /** A slice of a buffer begins within the array that both have, and a view that is read only shows no array. */
-    @Test
-    void buffersOfAllKinds() throws FormatException {
-        byte[] around = Cases.unhex("ffffff d101085402656e48656c6c6f ffff");
-        ByteBuffer direct = ByteBuffer.allocateDirect(around.length).put(around);
-        for (ByteBuffer whole : new ByteBuffer[] {ByteBuffer.wrap(around), direct, ByteBuffer.wrap(around).asReadOnlyBuffer()}) {
-            ByteBuffer slice = whole.position(2).slice().position(1);
-            assertEquals(true, new Checker().feed(slice));
-            assertEquals(13, slice.position());
-            ByteBuffer wrong = whole.position(1).slice();
-            assertEquals(0, assertThrows(FormatException.class, () -> new Checker().feed(wrong)).place());
-            assertEquals(0, wrong.position());
-        }
     }
 
     // ---- payloads
@@ -657,17 +457,5 @@ class RecordTest {
                 () -> HandoverSelect.builder(2).record(null));
         assertEquals(4294967295L, HandoverError.ofNumber(2, 4294967295L).number().getAsLong());
         assertEquals(Profile.values().length, 2);
-    }
-
-    @Test
-    void aHandoverIsBuilt() throws FormatException {
-        HandoverSelect select = HandoverSelect.builder(2).alternative(PowerState.ACTIVATING, bytes("0"), bytes("x"))
-                .error(HandoverError.ofNumber(1, 64)).build();
-        assertArrayEquals(Cases.unhex("129102066163020130010178510302657272 0140"), select.toByteArray());
-        assertEquals(64, select.error().get().number().getAsLong());
-        NdefMessage message = new NdefMessage(select.toRecord(), NdefRecord.createMime("a/b", NONE).withId(bytes("0")));
-        assertEquals(message.getRecords()[1], message.links().get(0).record().get());
-        assertEquals(select, message.getRecords()[0].decode());
-        assertEquals(0, new NdefMessage(hello()).links().size());
     }
 }

@@ -4,6 +4,7 @@ import java.io.EOFException;
 import java.io.FilterInputStream;
 import java.io.IOException;
 import java.io.InputStream;
+import java.io.OutputStream;
 import java.nio.charset.StandardCharsets;
 import java.util.Arrays;
 import java.util.Random;
@@ -34,6 +35,9 @@ final class Steps {
         Cases.check("what is at hand", Steps::atHand);
         Cases.check("errors of the other stream", Steps::otherErrors);
         Cases.check("large payloads", Steps::large);
+        if (rounds >= 10000) {
+            Cases.check("a payload of more than 2 GiB", Steps::huge);
+        }
         Cases.finish("steps");
     }
 
@@ -270,5 +274,23 @@ final class Steps {
         same(message.toByteArray(), message.toInputStream().readAllBytes());
         NdefRecord head = NdefRecord.createMime("a/b", NONE);
         same(message.toByteArray(), new RecordInputStream(head, new ByteArrayInputStream(payload), payload.length, Position.ONLY).readAllBytes());
+    }
+
+    /** Its length and what is taken of it have no place in a number of 32 bits with a sign. */
+    private static void huge() throws IOException {
+        long length = (1L << 31) + 9;
+        InputStream payload = new InputStream() {
+            @Override
+            public int read() {
+                return -1;
+            }
+
+            @Override
+            public int read(byte[] buffer, int at, int size) {
+                return size;
+            }
+        };
+        InputStream stream = new RecordInputStream(NdefRecord.createMime("a/b", NONE), payload, length, Position.ONLY);
+        Cases.same("bytes", 9 + length, stream.transferTo(OutputStream.nullOutputStream()));
     }
 }

@@ -1,4 +1,4 @@
-"""The lines of the conformance cases and of the typed values, and the names of the reasons and of the fields."""
+"""The lines of the conformance cases and of the typed values, and the names of the reasons."""
 import collections
 import pathlib
 import re
@@ -23,11 +23,6 @@ def sentences():
     return texts('NDEF_SENTENCES')
 
 
-def field_names():
-    """The names of the fields by their numbers."""
-    return texts('NDEF_FIELDS')
-
-
 def lines(name):
     """The lines of a file of cases, each with its columns."""
     for line in (TOP / 'conformance' / name).read_text().splitlines():
@@ -37,7 +32,7 @@ def lines(name):
 
 def cases():
     """Strict cases within the limits for usual tags: the line, whether payloads are looked into, octets, answer, records."""
-    for line, parts in lines('cases.txt'):
+    for line, parts in [*lines('cases.txt'), *lines('paths.txt')]:
         _, _, _, _, languages, profile, limits, octets, answer, records, *_ = parts + ['', '']
         if profile == 'standard' or limits != 'usual':
             continue
@@ -52,10 +47,10 @@ Value = collections.namedtuple('Value', 'line payload refusal words written')
 
 def values(kind):
     """Strict values of the payloads of a type."""
-    for line, (_, type_, _, _, profile, payload, told, *written) in lines('typed.txt'):
+    for line, (_, type_, _, _, profile, payload, expected, *written) in lines('typed.txt'):
         if type_ != kind or profile == 'standard':
             continue
-        words = told.split()
+        words = expected.split()
         if words[0] == 'refused':
             yield Value(line, octets_of(payload), (int(words[1]), int(words[2])), None, None)
         else:
@@ -65,8 +60,3 @@ def values(kind):
 def octets_of(word):
     """The octets of a column or of a part of a value."""
     return b'' if word == '-' else bytes.fromhex(word)
-
-
-def items_of(word):
-    """The octets of the items of a list."""
-    return [] if word == 'none' else [octets_of(item) for item in word.split(',')]

@@ -49,6 +49,14 @@ class CommandLine(unittest.TestCase):
         self.assertEqual((status, [json.loads(line) for line in lines]), (1, [{'message': 1, 'at': 0, 'records': 1, 'bytes': 12},
                          {'refused': {'place': 12, 'number': 1, 'reason': 'ReservedTnf'}}]))
 
+    def test_json_is_ascii(self):
+        """JSON has texts of any terminal by its own escapes."""
+        for words, value in (([], 'é€😀'), (['explain'], 'é')):
+            given = octets(ndef.TextRecord(value), ndef.Record('text/plain', 'é', b'x'))
+            _, lines = self.run_with(*words, '--json', files=[given])
+            self.assertTrue(lines and all(line.isascii() for line in lines), lines)
+        self.assertIn(value, str([json.loads(line) for line in self.run_with('--json', files=[given])[1]]))
+
     def test_explain(self):
         """The lines are those of `ndef-explain` without meanings (docs/EXPLAIN.md)."""
         poster = octets(ndef.SmartposterRecord('http://www.example.com/')) + bytes.fromhex('d101035442656e')
@@ -78,7 +86,7 @@ class CommandLine(unittest.TestCase):
                  (block, 0, 2, 'BeginMissing', None, near), (HELLO + block, 12, 2, 'BeginMissing', None, None))
         _, lines = self.run_with('explain', files=[case[0] for case in cases])
         _, objects = self.run_with('explain', '--json', files=[case[0] for case in cases])
-        objects = [told['refused'] for told in map(json.loads, objects) if 'refused' in told]
+        objects = [one['refused'] for one in map(json.loads, objects) if 'refused' in one]
         for file, (given, at, number, reason, sentence, hint) in enumerate(cases):
             with self.subTest(given.hex()):
                 before, meant = '%d.bin: ' % file, sentence or ndef.DecodeError('', 0, number).sentence
@@ -110,10 +118,10 @@ class CommandLine(unittest.TestCase):
 
     def test_remarks_of_many_records(self):
         """Records are compared in messages of at most 64."""
-        for count, told in ((64, 64), (65, 0)):
+        for count, count_of_remarks in ((64, 64), (65, 0)):
             given = b'\x9d\0\0\1a' + (count - 2) * b'\x1d\0\0\1a' + b'\x5d\0\0\1a'
             _, lines = self.run_with('explain', given=given)
-            self.assertEqual(sum(line.startswith('remark: record ') for line in lines), told)
+            self.assertEqual(sum(line.startswith('remark: record ') for line in lines), count_of_remarks)
 
     def test_nothing_is_strange(self):
         """Remarks are on what is accepted alone."""
@@ -144,12 +152,12 @@ class CommandLine(unittest.TestCase):
     def test_json(self):
         poster = octets(ndef.SmartposterRecord('http://www.example.com', 'Title', 'save'))
         status, lines = self.run_with('--json', files=[HELLO + poster + b'\xff'])
-        told = [json.loads(line) for line in lines]
-        self.assertEqual((status, len(told)), (1, 3))
-        self.assertEqual((told[0]['message'], told[0]['at'], told[0]['text']), (1, 0, 'Hello'))
-        self.assertEqual((told[1]['message'], told[1]['at'], told[1]['iri'], told[1]['titles'], told[1]['action']),
+        objects = [json.loads(line) for line in lines]
+        self.assertEqual((status, len(objects)), (1, 3))
+        self.assertEqual((objects[0]['message'], objects[0]['at'], objects[0]['text']), (1, 0, 'Hello'))
+        self.assertEqual((objects[1]['message'], objects[1]['at'], objects[1]['iri'], objects[1]['titles'], objects[1]['action']),
                          (2, 12, 'http://www.example.com', {'en': 'Title'}, 'save'))
-        self.assertEqual(told[2], {'refused': {'place': 12 + len(poster), 'number': 1, 'reason': 'ReservedTnf'}})
+        self.assertEqual(objects[2], {'refused': {'place': 12 + len(poster), 'number': 1, 'reason': 'ReservedTnf'}})
 
     def test_json_of_each_attribute(self):
         """What an object has is what the record has: octets in digits, named tuples as objects."""
@@ -172,8 +180,8 @@ class CommandLine(unittest.TestCase):
     def test_json_of_several_files(self):
         """Each file's messages are counted from 1, and places from its front."""
         status, lines = self.run_with('--json', files=[HELLO + HELLO, b'\xff', HELLO + HELLO[:5], b'', HELLO])
-        told = [json.loads(line) for line in lines]
-        self.assertEqual([part.get('refused') or (part['message'], part['at']) for part in told],
+        objects = [json.loads(line) for line in lines]
+        self.assertEqual([part.get('refused') or (part['message'], part['at']) for part in objects],
                          [(1, 0), (2, 12), {'place': 0, 'number': 1, 'reason': 'ReservedTnf'}, (1, 0),
                           {'place': 17, 'number': 24, 'reason': 'EndOfInput'}, (1, 0)])
         self.assertEqual(status, 1)

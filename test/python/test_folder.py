@@ -22,9 +22,10 @@ def dump(number):
     printed = "NDEF Text Record ID '' Text '%s' Language 'en' Encoding 'UTF-8'; NDEF Uri Record ID '' Resource 'http://www.%s'" % (text, uri)
     if number % 50 == 0:
         return b'', ''
-    return (octets, printed) if number % 10 else (octets[:-1], 'refused at %d: EndOfInput' % (len(octets) - 1))
+    return (octets, printed) if number % 10 else (octets[:-1], 'refused at %d: EndOfInput: The input ends within a message.' % (len(octets) - 1))
 
 
+@unittest.skipUnless(counted.has_semaphores(), 'no semaphores')
 class Folder(unittest.TestCase):
     def run_on(self, files, *words):
         """The status, the lines and the progress of a run over a folder with these files."""

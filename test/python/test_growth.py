@@ -63,14 +63,14 @@ def carrier(count):
 class Growth(unittest.TestCase):
     def row(self, name, counts, walk_of):
         """Tests that the time grows with the count at most."""
-        told = []
+        measured = []
         for count in counts:
-            told.append(time_of(walk_of(count)))
-            if len(told) > 1:
-                times = counts[len(told) - 1] / counts[len(told) - 2]
-                self.assertLess(told[-1], 3.5 * times * told[-2] + 0.002, '%s: %s seconds' % (name, told))
+            measured.append(time_of(walk_of(count)))
+            if len(measured) > 1:
+                times = counts[len(measured) - 1] / counts[len(measured) - 2]
+                self.assertLess(measured[-1], 3.5 * times * measured[-2] + 0.002, '%s: %s seconds' % (name, measured))
         if os.environ.get('GROWTH'):
-            print('Python', name, ', '.join(map(str, counts)), *('%.0f' % (1e6 * seconds) for seconds in told), sep=' | ')
+            print('Python', name, ', '.join(map(str, counts)), *('%.0f' % (1e6 * seconds) for seconds in measured), sep=' | ')
 
     def decoded(self, made, stream=None, looked=lambda record: None):
         """A walk over the records of what is made for a count."""

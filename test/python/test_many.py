@@ -10,7 +10,7 @@ HELLO = bytes.fromhex('d101085402656e48656c6c6f')
 BROKEN = bytes.fromhex('d1010154ff')
 
 
-def alone(octets, known_types=None):
+def by_itself(octets, known_types=None):
     """What `message_decoder` answers of one message: its records, or the error."""
     try:
         return list(ndef.message_decoder(octets, known_types=known_types))
@@ -38,7 +38,7 @@ class Many(unittest.TestCase):
         answers = list(ndef.decode_many(messages, known_types))
         self.assertEqual(len(answers), len(messages))
         for octets, answer in zip(messages, answers):
-            wanted = alone(octets, known_types)
+            wanted = by_itself(octets, known_types)
             with self.subTest(octets.hex()):
                 self.assertIs(type(answer), type(wanted))
                 if isinstance(wanted, list):

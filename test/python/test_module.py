@@ -2,194 +2,21 @@
 import doctest
 import io
 import os
-import pickle
-import random
 import threading
 import unittest
 
 import counted
 import simbegyor_ndef as ndef
-from simbegyor_ndef import _library as library
-from cases import TOP, cases, field_names, items_of, octets_of, reasons, values
+from cases import TOP, cases
 
 HELLO = bytes.fromhex('d101085402656e48656c6c6f')
-REASONS = reasons()
-SPELLED = ('', 'urn:nfc:wkt:', '', '', 'urn:nfc:ext:', 'unknown', 'unchanged', 'reserved')
 
 
 def octets(*records, unchecked=False):
     return b''.join(ndef.message_encoder(records, unchecked=unchecked))
 
 
-ACTIONS = {0: 'exec', 1: 'save', 2: 'edit'}
-POWERS = ('inactive', 'active', 'activating', 'unknown')
-KNOWN = (ndef.TextRecord, ndef.UriRecord, ndef.SmartposterRecord, ndef.HandoverRequestRecord, ndef.HandoverSelectRecord,
-         ndef.HandoverCarrierRecord)
-
-
-def number_of(word):
-    """A number, or None."""
-    return None if word == 'none' else int(word)
-
-
-class Suite(unittest.TestCase):
-    def told(self, records):
-        """Type, name and payload of each record that a line tells."""
-        for record in records.split(','):
-            tnf, kind, name, payload = record.split()
-            yield SPELLED[int(tnf)] + octets_of(kind).decode('latin-1'), octets_of(name).decode('latin-1'), octets_of(payload)
-
-    def test_cases(self):
-        count = 0
-        for line, typed, given, answer, records in cases():
-            count += 1
-            with self.subTest(line):
-                stream = io.BytesIO(given)
-                if not given:
-                    self.assertEqual(list(ndef.message_decoder(given)), [])
-                elif answer[0] == 'accepted':
-                    decoded = list(ndef.message_decoder(stream, known_types=None if typed else {}))
-                    self.assertEqual(stream.tell(), int(answer[1]))
-                    told = list(self.told(records))
-                    self.assertEqual([(record.type, record.name) for record in decoded], [part[:2] for part in told])
-                    if not typed:
-                        self.assertEqual([record.data for record in decoded], [part[2] for part in told])
-                    written = b''.join(ndef.message_encoder(decoded, unchecked=not typed))
-                    self.assertEqual(list(ndef.message_decoder(written, known_types=None if typed else {})), decoded)
-                else:
-                    with self.assertRaises(ndef.DecodeError) as caught:
-                        list(ndef.message_decoder(given, known_types=None if typed else {}))
-                    self.assertEqual(caught.exception.place, int(answer[1]))
-                    number = int(answer[2]) if answer[0] == 'refused' else 24
-                    self.assertEqual(caught.exception.reason, REASONS[number])
-        self.assertGreater(count, 1000)
-
-    def decoded(self, kind):
-        """The records for the payloads of a type: the record, the words of its value, and the payload that it has written."""
-        for line, payload, refusal, value, written in values(kind):
-            given = octets(ndef.Record('urn:nfc:wkt:' + kind, '', payload), unchecked=True)
-            for known in (None, {known._type: known for known in KNOWN}):
-                with self.subTest(line, known=known):
-                    if refusal:
-                        place, number = refusal
-                        with self.assertRaises(ndef.DecodeError) as caught:
-                            list(ndef.message_decoder(given, known_types=known))
-                        self.assertEqual(caught.exception.reason, REASONS[number])
-                        if known is not None:
-                            self.assertEqual(caught.exception.place, place + len(given) - len(payload))
-                    else:
-                        (record,) = ndef.message_decoder(given, known_types=known)
-                        yield record, value, written
-
-    def test_texts(self):
-        for text, value, written in self.decoded('T'):
-            language, spelled = octets_of(value['language']).decode(), octets_of(value['text']).decode()
-            self.assertEqual((text.encoding, text.language, text.text), (value['encoding'].upper(), language, spelled))
-            self.assertEqual(ndef.TextRecord(spelled, language, text.encoding).data, written)
-
-    def test_uris(self):
-        for uri, value, written in self.decoded('U'):
-            self.assertEqual(uri.iri, octets_of(value['uri']).decode())
-            self.assertEqual(ndef.UriRecord(uri.iri).data, written)
-
-    def test_posters(self):
-        for poster, value, written in self.decoded('Sp'):
-            uri, size, media = octets_of(value['uri']).decode(), number_of(value['size']), value['media']
-            action = number_of(value['action'])
-            action = ACTIONS.get(action, action)
-            self.assertEqual((poster.resource.iri, poster.action, poster.resource_size), (uri, action, size))
-            self.assertEqual(poster.resource_type, None if media == 'none' else octets_of(media).decode())
-            self.assertEqual([title.text.encode() for title in poster.title_records], items_of(value['titles']))
-            self.assertEqual(poster.data, written)
-            made = ndef.SmartposterRecord(uri, action=action, resource_size=size)
-            (back,) = ndef.message_decoder(octets(made))
-            self.assertEqual((back.resource.iri, back.action, back.resource_size), (uri, action, size))
-            poster.action, poster.resource_size = 7, 65536
-            self.assertEqual((poster.action, poster.resource_size), (7, 65536))
-
-    def test_carriers(self):
-        for carrier, value, written in self.decoded('Hc'):
-            kind = SPELLED[int(value['format'])] + octets_of(value['type']).decode()
-            self.assertEqual((carrier.carrier_type, carrier.carrier_data), (kind, octets_of(value['data'])))
-            self.assertEqual(carrier.data, written)
-
-    def test_handovers(self):
-        for kind in ('Hr', 'Hs'):
-            for handover, value, written in self.decoded(kind):
-                self.assertEqual((handover.data, handover.version_info), (written, (1, int(value['minor']))))
-                # The alternative carriers of the suite have these four octets each.
-                self.assertEqual(handover.alternative_carriers, written.count(bytes.fromhex('6163 01013000')) * [('active', '0', [])])
-                if kind == 'Hr':
-                    self.assertEqual(handover.collision_resolution_number, int(value['collision']))
-
-    def test_alternative_carriers(self):
-        for line, payload, refusal, value, written in values('ac'):
-            if refusal:
-                continue
-            with self.subTest(line):
-                power, reference, rest = POWERS[int(value['power'])], octets_of(value['reference']).decode(), value['rest']
-                (select,) = ndef.message_decoder(octets(ndef.Record('urn:nfc:wkt:Hs', '', b'\x12' + octets(ndef.Record('urn:nfc:wkt:ac', '', payload)))))
-                (carrier,) = select.alternative_carriers
-                self.assertEqual(carrier.carrier_power_state, power)
-                self.assertEqual(carrier.carrier_data_reference, reference)
-                auxiliary = carrier.auxiliary_data_reference
-                self.assertEqual([name.encode() for name in auxiliary], items_of(value['auxiliary']))
-                made = ndef.HandoverSelectRecord('1.2', None, (power, reference, *auxiliary))
-                self.assertEqual(made.alternative_carriers, [carrier])
-                self.assertEqual(made.data, b'\x12' + octets(ndef.Record('urn:nfc:wkt:ac', '', written[:len(written) - len(octets_of(rest))])))
-
-    def test_errors(self):
-        for line, _, refusal, value, written in values('err'):
-            if refusal:
-                continue
-            with self.subTest(line):
-                reason, told = int(value['reason']), octets_of(value['data'])
-                numbers = [int.from_bytes(told, 'big')] if reason in (1, 2, 3) else []
-                for data in [told] + numbers:
-                    made = ndef.HandoverSelectRecord('1.2', (reason, data))
-                    self.assertEqual((made.error.error_reason, made.error.error_data), (reason, (numbers + [told])[0]))
-                    self.assertEqual(made.data, b'\x12' + octets(ndef.Record('urn:nfc:wkt:err', '', written)))
-                    (back,) = ndef.message_decoder(octets(made))
-                    self.assertEqual(back.error, (reason, (numbers + [told])[0]))
-
-    def test_requests(self):
-        for line, _, refusal, value, written in values('Hr'):
-            if refusal or value['records'] != '1':
-                continue
-            with self.subTest(line):
-                minor, number = int(value['minor']), int(value['collision'])
-                made = ndef.HandoverRequestRecord(16 + minor, number)
-                self.assertEqual(made.data, written)
-                self.assertEqual((made.version_info, made.hexversion), ((1, minor), 16 + minor))
-                (back,) = ndef.message_decoder(octets(made))
-                self.assertEqual((back.version_info, back.collision_resolution_number), ((1, minor), number))
-
-
 class Records(unittest.TestCase):
-    def test_random_records_there_and_back(self):
-        chance = random.Random(1)
-        types = ['unknown', 'text/plain', 'urn:nfc:ext:a:b', 'urn:nfc:wkt:x', 'urn:nfc:wkt:T', 'urn:nfc:wkt:Hc', 'http://x.y/', '']
-        for _ in range(1000):
-            message = []
-            for _ in range(chance.randint(1, 5)):
-                kind = chance.choice(types)
-                if kind == 'urn:nfc:wkt:T':
-                    message.append(ndef.TextRecord(chance.choice(['', 'a', 'é' * 200, '\U0001f600']), chance.choice(['', 'de', 'x' * 63]),
-                                                   chance.choice(['UTF-8', 'UTF-16'])))
-                elif kind == 'urn:nfc:wkt:Hc':
-                    message.append(ndef.HandoverCarrierRecord(chance.choice(['a/b', 'urn:nfc:wkt:x']), chance.randbytes(20), 'n'))
-                elif kind:
-                    message.append(ndef.Record(kind, chance.choice(['', 'i', 'ÿ' * 255]), chance.randbytes(chance.choice([0, 5, 255, 256]))))
-                else:
-                    message.append(ndef.Record())
-            given = octets(*message)
-            self.assertEqual(list(ndef.message_decoder(given)), message)
-            self.assertEqual(list(ndef.message_decoder(io.BytesIO(given))), message)
-
-    def test_pieces_are_joined(self):
-        (text,) = ndef.message_decoder(bytes.fromhex('b101035402656e36000348656c5600026c6f'))
-        self.assertEqual((text.text, text.language), ('Hello', 'en'))
-
     def test_spellings_of_types(self):
         for spelled, given in (('urn:nfc:wkt:T', 'd1010054'), ('text/plain', 'd20a00746578742f706c61696e'), ('a:b', 'd30300613a62'),
                                ('urn:nfc:ext:x', 'd4010078'), ('unknown', 'd50000'), ('', 'd00000')):
@@ -217,26 +44,6 @@ class Records(unittest.TestCase):
         self.assertEqual(octets(text).hex(), 'd9010401546e02646562')
         uri = ndef.UriRecord('http://www.hääyö.com/é')
         self.assertEqual(uri.uri, 'http://www.xn--hy-viaa5g.com/%C3%A9')
-
-    def test_posters(self):
-        poster = ndef.SmartposterRecord('tel:1', 'One', icon=b'png', resource_type='text/html')
-        poster.set_title('Eins', 'de')
-        (back,) = ndef.message_decoder(octets(poster))
-        self.assertEqual((back.resource.iri, back.title, back.titles), ('tel:1', 'One', {'en': 'One', 'de': 'Eins'}))
-        self.assertEqual((back.icon, back.icons, back.resource_type), (b'png', {'image/png': b'png'}, 'text/html'))
-        self.assertEqual((back.action, back.resource_size), (None, None))
-        back.resource = 'tel:2'
-        self.assertEqual(next(ndef.message_decoder(octets(back))).resource.iri, 'tel:2')
-
-    def test_handovers(self):
-        given = bytes.fromhex('91 02 0A 48 73 12 D1 02 04 61 63 01 01 30 00 5A 03 01 01 61 2F 62 30 01')
-        select, carrier = ndef.message_decoder(given)
-        self.assertEqual((select.alternative_carriers, select.error), ([('active', '0', [])], None))
-        self.assertEqual((select.type, carrier.type, carrier.name), ('urn:nfc:wkt:Hs', 'a/b', '0'))
-        self.assertEqual(octets(select, carrier), given)
-        carrier = ndef.HandoverCarrierRecord('application/vnd.bluetooth.ep.oob', b'data', 'name')
-        (back,) = ndef.message_decoder(octets(carrier))
-        self.assertEqual((back.carrier_type, back.carrier_data, back.name), ('application/vnd.bluetooth.ep.oob', b'data', 'name'))
 
     def test_handovers_that_are_made(self):
         request = ndef.HandoverRequestRecord('1.3', 0x1234, ('active', '0'), ('unknown', 'a', 'b', ''))
@@ -336,17 +143,21 @@ class Streams(unittest.TestCase):
         self.assertEqual(wrong, [])
 
 
-class Refusals(unittest.TestCase):
-    def test_names_of_reasons(self):
-        self.assertEqual(list(REASONS), list(range(1, 26)))
-        self.assertEqual({number: library.reason_name(number) for number in REASONS}, REASONS)
-        self.assertEqual(REASONS[library.PAYLOAD_TOO_LARGE], 'PayloadTooLarge')
+class Structs(unittest.TestCase):
+    def test_numbers_have_the_sizes_of_each_machine(self):
+        decode, encode = ndef.Record._decode_struct, ndef.Record._encode_struct
+        for letter, size in zip('bBhHiIlLqQ', (1, 1, 2, 2, 4, 4, 4, 4, 8, 8)):
+            for order in ('', '@', '=', '<', '>', '!'):
+                written = encode(order + letter, 1)
+                self.assertEqual((len(written), decode(order + letter, written + b'more')), (size, 1))
 
+
+class Refusals(unittest.TestCase):
     def test_values_that_no_handover_has(self):
         request, select, active = ndef.HandoverRequestRecord, ndef.HandoverSelectRecord, 'active'
         self.assertRaises(ndef.EncodeError, octets, request())
         for version, *number in (('1.3', 65536), ('1.3', -1), ('1.3', 2 ** 32), ('2.0', 1), ('0.3', 1), ('1.16', 1), (0x100000013, 1),
-                                 ('1.-1', 1), (-1, 1), ('2.0',)):
+                                 ('1.-1', 1), (-1, 1), ('2.0',), *((near, 1) for near in ('1.3.5', '1.', '.3', '1.3 ', '+1.3', '1.3a', '1,3'))):
             self.assertRaises(ValueError, request, version, *number)
         for error in ((1, 256), (4, 1), (2, 2 ** 32), (2, b'abc'), (256, b''), (257, 1)):
             self.assertRaises(ValueError, select, '1.3', error)
@@ -388,77 +199,6 @@ class Refusals(unittest.TestCase):
         self.assertRaises(ValueError, next, ndef.message_decoder(HELLO, 'lenient'))
         self.assertRaises(TypeError, list, ndef.message_encoder(['text']))
         self.assertRaises(ValueError, ndef.TextRecord, 'a', 'en', 'UTF-32')
-
-    def test_wild_octets(self):
-        chance = random.Random(2)
-        select = bytes.fromhex('910211487312d1020b616301013002013103313233425a03010161 2f623001')
-        message = octets(ndef.SmartposterRecord('tel:1', 'One'), ndef.HandoverCarrierRecord('a/b', b'x'), ndef.TextRecord('a'))
-        for _ in range(4000):
-            given = bytearray(chance.choice([message, select]))
-            given[chance.randrange(len(given))] = chance.randrange(256)
-            known = chance.choice([None, {known._type: known for known in KNOWN}])
-            try:
-                records = list(ndef.message_decoder(given, known_types=known))
-            except ndef.DecodeError:
-                continue
-            self.assertEqual(list(ndef.message_decoder(octets(*records), known_types=known)), records)
-            for record in records:
-                getattr(record, 'alternative_carriers', None)
-
-
-class Fields(unittest.TestCase):
-    """In which field each octet stands, as NDEF 1.0, RTD Text 1.0, RTD URI 1.0 and RTD Smart Poster 1.0 lay them out."""
-
-    def test_names(self):
-        names = field_names()
-        self.assertEqual(list(names), list(range(1, 32)))
-        self.assertEqual({number: library.field_name(number) for number in names}, names)
-
-    def test_a_poster(self):
-        given = bytes.fromhex('d1020d5370 91010255006151010354004142')
-        head, inner = ['header', 'TYPE_LENGTH', 'PAYLOAD_LENGTH', 'TYPE'], [0, 0, 0, 0]
-        for octets in (given, bytearray(given + HELLO), memoryview(given)):
-            told = ndef.fields(octets)
-            self.assertEqual([field.name for field in told],
-                             head + head + ['identifier code', 'URI'] + head + ['status', 'text'])
-            self.assertEqual([field.depth for field in told], inner + 12 * [1])
-            self.assertEqual([field.octets.hex() for field in told],
-                             'd1 02 0d 5370 91 01 02 55 00 61 51 01 03 54 00 4142'.split())
-            self.assertEqual([field.length for field in told], [len(field.octets) for field in told])
-            self.assertEqual([field.at for field in told], [sum(field.length for field in told[:i]) for i in range(16)])
-        self.assertEqual(told[3], ndef.Field(3, 2, 0, 'TYPE', b'Sp'))
-
-    def test_profiles(self):
-        """The type name format 7 and a reserved code of a URI, as NDEF 1.0, 3.2.6 and RTD URI 1.0, 3.2.2 read them."""
-        for given, place in (('d70001aa', 0), ('d1010255ff61', 4)):
-            octets = bytes.fromhex(given)
-            for strict in (lambda: ndef.fields(octets), lambda: ndef.fields(octets, profile='strict')):
-                with self.assertRaises(ndef.DecodeError) as caught:
-                    strict()
-                self.assertEqual((caught.exception.place, sum(field.length for field in caught.exception.fields)), (place, place))
-            self.assertEqual(b''.join(field.octets for field in ndef.fields(octets, 'standard')), octets)
-        self.assertEqual([field.name for field in ndef.fields(octets, 'standard')][4:], ['identifier code', 'URI'])
-        for profile in ('lax', 'Standard', '', None, 1):
-            self.assertRaises(ValueError, ndef.fields, b'', profile)
-
-    def test_more_fields_than_are_guessed(self):
-        given = octets(*(ndef.UriRecord('http://www.a.com') for _ in range(100)))
-        self.assertEqual(len(ndef.fields(given)), 600)
-        self.assertEqual(b''.join(field.octets for field in ndef.fields(given)), given)
-
-    def test_refusals(self):
-        for given, place, reason, before in (('d101085402656e', 7, 'EndOfInput', 'd1 01 08 54 02 656e'),
-                                             ('d1010455242e', 4, 'UriCode', 'd1 01 04 55'), ('51', 0, 'BeginMissing', '')):
-            with self.assertRaises(ndef.DecodeError) as caught:
-                ndef.fields(bytes.fromhex(given))
-            error = pickle.loads(pickle.dumps(caught.exception))
-            self.assertEqual((error.place, error.reason), (place, reason))
-            self.assertEqual([field.octets.hex() for field in error.fields], before.split())
-        self.assertEqual(ndef.fields(b''), [])
-        self.assertRaises(TypeError, ndef.fields, 'd10000')
-        with self.assertRaises(ndef.DecodeError) as caught:
-            list(ndef.message_decoder(b'\xd1'))
-        self.assertEqual(caught.exception.fields, [])
 
 
 class Readme(unittest.TestCase):

@@ -28,7 +28,7 @@ def decoded(*records):
     return list(ndef.message_decoder(octets(*records)))
 
 
-def told(given):
+def answer_of(given):
     """The texts of a message, or the place of its fault."""
     try:
         return [record.text for record in ndef.message_decoder(given)]
@@ -119,6 +119,8 @@ class Values(unittest.TestCase):
             before = octets(made)
             self.assertRaises(ValueError, setattr, made, name, value)
             self.assertEqual(octets(made), before)
+        text.language = ''
+        self.assertEqual(list(ndef.message_decoder(b''.join(ndef.message_encoder([text])))), [text])
         record.name, text.language = 255 * 'x', 63 * 'x'
         self.assertEqual(decoded(record, text), [record, text])
 
@@ -180,11 +182,11 @@ class Forms(unittest.TestCase):
         for record, form in zip(self.records(), forms):
             self.assertTrue(form.endswith(format(record, 'data')))
             self.assertEqual(format(record, '>200'), form.rjust(200))
-        for count, told in ((10, ''), (11, ' ... 1 more'), (12, ' ... 2 more')):
-            told = "%d byte '%s'%s" % (count, 10 * '00', told)
-            self.assertEqual(str(ndef.Record('unknown', '', bytes(count))), "NDEF Record TYPE 'unknown' ID '' PAYLOAD " + told)
+        for count, expected in ((10, ''), (11, ' ... 1 more'), (12, ' ... 2 more')):
+            expected = "%d byte '%s'%s" % (count, 10 * '00', expected)
+            self.assertEqual(str(ndef.Record('unknown', '', bytes(count))), "NDEF Record TYPE 'unknown' ID '' PAYLOAD " + expected)
             carrier = str(ndef.HandoverCarrierRecord('a/b', bytes(count)))
-            self.assertEqual(carrier, "NDEF Handover Carrier Record ID '' Carrier Type 'a/b' Carrier Data " + told)
+            self.assertEqual(carrier, "NDEF Handover Carrier Record ID '' Carrier Type 'a/b' Carrier Data " + expected)
 
     def test_names_of_ndeflib(self):
         for module, names in (('record', 'DecodeError EncodeError GlobalRecord LocalRecord Record'), ('text', 'TextRecord'), ('uri', 'UriRecord'),
@@ -292,9 +294,9 @@ class Own(unittest.TestCase):
             try:
                 parent.register_type(Local)
                 given = ndef.Record(parent._type, '', before + octets(*others, Local()))
-                outer, alone = decoded(given, Local())
+                outer, single = decoded(given, Local())
                 self.assertIsInstance(outer.records[-1], Local)
-                self.assertNotIsInstance(alone, Local)
+                self.assertNotIsInstance(single, Local)
             finally:
                 parent._known_parts.clear()
                 parent._known_parts.update(known)
@@ -307,25 +309,28 @@ class Processes(unittest.TestCase):
             for back in (pickle.loads(pickle.dumps(raised)), copy.copy(raised), copy.deepcopy(raised)):
                 self.assertEqual((type(back), vars(back), str(back)), (type(raised), vars(raised), str(raised)))
             self.assertEqual(len(str(raised).splitlines()), 1)
-        self.assertEqual(str(ndef.DecodeError('TextBit', 16, 15)), 'refused at 16: TextBit')
+        self.assertEqual(str(ndef.DecodeError('of one\'s own', 16)), "refused at 16: of one's own")
 
     def test_records_pickle_and_copy(self):
         for record in Forms().records():
             for made in (record, *ndef.message_decoder(octets(record))):
                 self.assertEqual([pickle.loads(pickle.dumps(made)), copy.deepcopy(made)], [made, made])
 
+    @unittest.skipUnless(counted.has_semaphores(), 'no semaphores')
     def test_a_pool_of_processes(self):
         message = [BROKEN if number % 10 == 0 else octets(ndef.TextRecord(str(number))) for number in range(3000)]
         with concurrent.futures.ProcessPoolExecutor(4) as pool:
-            answers = list(pool.map(told, message, chunksize=150))
+            answers = list(pool.map(answer_of, message, chunksize=150))
             broken = [pool.submit(list_of, BROKEN).exception(), pool.submit(octets, ndef.HandoverRequestRecord()).exception()]
         self.assertEqual(answers, [16 if number % 10 == 0 else [str(number)] for number in range(3000)])
-        self.assertEqual([str(error) for error in broken], ['refused at 16: TextBit', 'no handover has these parts, at 0: BadArgument'])
+        self.assertEqual([str(error) for error in broken], [
+            'refused at 16: TextBit: Bit 6 of the status octet of a text is reserved: it has to be 0.', 'record 0: BadArgument: '
+            'collision_resolution_number: it is None'])
 
     def test_a_pool_of_threads(self):
         message = [BROKEN if number % 10 == 0 else octets(ndef.TextRecord(str(number))) for number in range(3000)]
         with concurrent.futures.ThreadPoolExecutor(4) as pool:
-            answers = list(pool.map(told, message))
+            answers = list(pool.map(answer_of, message))
             for _ in range(500):
                 (text,) = ndef.message_decoder(HELLO)
                 self.assertEqual(list(pool.map(lambda name, text=text: getattr(text, name), ('text', 'language', 'encoding', 'text'))),
@@ -362,7 +367,8 @@ class Programs(unittest.TestCase):
             self.assertEqual(self.run_python(examples / 'print_tag.py', tag),
                              (0, "poster: http://www.example.com, titles {'en': 'Title', 'de': 'Titel'}\n"))
             tag.write_bytes(BROKEN)
-            self.assertEqual(self.run_python(examples / 'print_tag.py', tag), (1, 'text (en): Hello\nnot a message: refused at 16: TextBit\n'))
+            self.assertEqual(self.run_python(examples / 'print_tag.py', tag), (1, 'text (en): Hello\nnot a message: refused at 16: TextBit: Bit 6 of the status '
+                              'octet of a text is reserved: it has to be 0.\n'))
             self.assertEqual(self.run_python(examples / 'write_poster.py', tag, 'tel:1', 64 * 'x' + '=Title')[0], 1)
             request.write_bytes(octets(ndef.HandoverRequestRecord('1.3', 7, ('active', 'a'), ('active', 'b')), ndef.Record('x/y', 'a', b'1'),
                                        ndef.Record('x/z', 'b', b'2')))

@@ -1,5 +1,6 @@
 """Tests of the module as a package: its annotations, its wheel, and what `make install` says of its folder."""
 import importlib
+import importlib.machinery
 import inspect
 import os
 import pathlib
@@ -72,10 +73,18 @@ class Package(unittest.TestCase):
 
     def test_names_on_other_platforms(self):
         """Nothing is built for them here: these are the names that the loaders of Windows and macOS know."""
-        for platform, name in (('linux', 'libndef.so'), ('freebsd14', 'libndef.so'), ('darwin', 'libndef.dylib'), ('win32', 'ndef.dll'),
+        for platform, name in (('linux', 'libndef.so.1'), ('freebsd14', 'libndef.so.1'), ('darwin', 'libndef.dylib'), ('win32', 'ndef.dll'),
                                ('cygwin', 'ndef.dll')):
             self.assertEqual(_platform.library_name(platform), name)
         self.assertTrue(pathlib.Path(ndef.__path__[0], _platform.library_name()).exists())
+
+    def test_the_library_is_no_module(self):
+        for platform in 'linux', 'freebsd14', 'darwin', 'win32', 'cygwin':
+            name = _platform.library_name(platform)
+            self.assertEqual([suffix for suffix in (*importlib.machinery.all_suffixes(), '.pyd') if name.endswith(suffix)], [])
+        for name in 'libndef', 'ndef':
+            with self.assertRaises(ModuleNotFoundError):
+                importlib.import_module('simbegyor_ndef.' + name)
 
     def test_a_link_to_the_shared_library_is_asked_for_by_name(self):
         """The loader chooses among the files of a shared library where it is asked for its name, and not where it is given a path.
@@ -100,7 +109,7 @@ class Package(unittest.TestCase):
     def test_where_it_goes_is_said(self):
         environment = {name: value for name, value in os.environ.items() if name != 'PYTHONPATH'}
         for folder, warned in (('/nowhere', True), (os.path.dirname(os.__file__), False)):
-            said = subprocess.run([str(TOP / 'packaging/python_told'), sys.executable, folder], env=environment, stdout=subprocess.PIPE,
+            said = subprocess.run([str(TOP / 'packaging/python/say_folder'), sys.executable, folder], env=environment, stdout=subprocess.PIPE,
                                   stderr=subprocess.PIPE)
             self.assertEqual((said.returncode, said.stdout.decode()), (0, 'The Python module is in %s/simbegyor_ndef.\n' % folder))
             self.assertEqual(b'warning' in said.stderr, warned)

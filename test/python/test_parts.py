@@ -84,29 +84,6 @@ class Parts(unittest.TestCase):
         self.assertEqual(count, size + 6)
         self.assertLess(most, 1 << 20)
 
-    def test_random(self):
-        wild, chance = Wild(9), random.Random(9)
-        for _ in range(int(os.environ.get('NDEF_RANDOM', 100000))):
-            kinds = [chance.choice(KINDS) if chance.random() < 0.7 else None for _ in range(chance.randint(1, 3))]
-            message = wild.message([(1, kind, wild.name(), wild.payload(kind)) if kind else wild.other() for kind in kinds])
-            records = list(ndef.message_decoder(message, errors='relax'))
-            whole, size = octets(*records, unchecked=True), chance.choice((1, 2, 3, 4, 16, 100, 1000))
-            parts = list(ndef.message_encoder(map(self.some_streamed(chance), records), size=size, unchecked=True))
-            self.assertEqual(parts, [whole[at:at + size] for at in range(0, len(whole), size)], message)
-
-    @staticmethod
-    def some_streamed(chance):
-        """Makes of every other record one that has the same parts and whose payload comes in parts."""
-        def changed(record):
-            if chance.random() < 0.5:
-                return record
-            data = bytes(record.data)
-            cuts = [0, *sorted(chance.randrange(len(data) + 1) for _ in range(chance.randrange(4))), len(data)]
-            made = streamed(*(data[begin:end] for begin, end in zip(cuts, cuts[1:])), name=record.name)
-            made._parts = record._kind()
-            return made
-        return changed
-
 
 class Errors(unittest.TestCase):
     HEAD = b'\xda\t\5\1image/pngi'

@@ -1,6 +1,5 @@
 """What errors and functions say of octets that are refused: what was wanted, and what may help; and of those that are accepted: what
-is strange. The sentences are those of docs/EXPLAIN.md and test/explain/rows.txt. test_calls.py compares those of random messages with
-what the calls write."""
+is strange. The sentences are those of docs/EXPLAIN.md and test/explain/rows.txt. test/table/run compares those of many messages."""
 import copy
 import io
 import pickle
@@ -49,24 +48,6 @@ class Sentences(unittest.TestCase):
                 self.assertEqual(refusal(lambda: ndef.fields(octets)).sentence, sentence)
                 (error,) = ndef.decode_many([octets])
                 self.assertEqual(error.sentence, sentence)
-
-    def test_what_may_help(self):
-        for octets, sentence in {**HINTS, LATE: None}.items():
-            with self.subTest(octets.hex()):
-                self.assertEqual(ndef.hint(octets), sentence)
-                (error,) = ndef.decode_many([octets])
-                self.assertEqual([refusal(lambda: ndef.fields(octets)).hint, refusal(lambda: list(ndef.message_decoder(octets))).hint, error.hint],
-                                 3 * [sentence])
-
-    def test_where_nothing_is_refused(self):
-        for octets in (b'', HELLO, HELLO + LATE):
-            self.assertEqual((ndef.why(octets), ndef.hint(octets)), (None, None))
-
-    def test_profiles(self):
-        reserved = bytes.fromhex('d7000161')
-        self.assertIsNotNone(ndef.why(reserved, 'strict'))
-        self.assertEqual((ndef.why(reserved, 'standard'), ndef.hint(reserved, profile='standard')), (None, None))
-        self.assertEqual(refusal(lambda: ndef.fields(LATE, 'standard')).sentence, WANTED[LATE])
 
     def test_bad_arguments(self):
         for call in (ndef.why, ndef.hint):

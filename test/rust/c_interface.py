@@ -1,13 +1,15 @@
 #!/usr/bin/env python3
-"""c_interface.py FOLDER: writes the file FOLDER/ndef.rs, a library for C of the proved text that the Rust crate holds, for tests alone. Its calls
+"""c_interface.py FOLDER: writes the file FOLDER/ndef.rs, a library for C of the proved text, as `ports/erase --whole` writes it, only for tests. Its calls
 are those of include/ndef.h, so the programs of test/c run over it: two compilers on one proved text, each a test of the other. With
 `--cfg bare` it needs no operating system."""
 import pathlib
 import re
+import subprocess
 import sys
 
 TOP = pathlib.Path(__file__).resolve().parents[2]
-PROVED = TOP / 'bindings/rust/src/proved'
+FOLDER = pathlib.Path(sys.argv[1]).resolve()
+PROVED = FOLDER / 'whole/proved'
 CALL = re.compile(r'^pub fn (ndef_\w+)(?:<[^>]*>)?\((.*?)\)\s*(->\s*\w+)?\s*\{', re.S | re.M)
 HEAD = f'''#![cfg_attr(bare, no_std)]
 #![allow(unsafe_code, dead_code, improper_ctypes_definitions, clippy::missing_safety_doc)]
@@ -61,13 +63,15 @@ def call(name, parameters, answer):
 
 
 def main():
+    subprocess.run([TOP / 'ports/erase', '--whole', PROVED], check=True)
+    (PROVED.parent / 'shim.rs').write_text((TOP / 'bindings/rust/src/shim.rs').read_text())
     text = '\n'.join(path.read_text() for path in sorted((PROVED / 'ndef_c').glob('*.rs')))
     calls = CALL.findall(text)
     made = HEAD + '\n'.join(call(*found) for found in calls)
     # The name of a call is taken twice: by the proved function, and by the one for C.
     made = made.replace('ndef_begin(&*limits, &mut', 'proved::ndef_c::ndef_begin(&*limits, &mut')
     made = made.replace('use proved::ndef_c::*;', 'use proved::ndef_c::{begun, ' + ', '.join(sorted(set(re.findall(r'\bNdef\w+', made)))) + '};')
-    (pathlib.Path(sys.argv[1]) / 'ndef.rs').write_text(made)
+    (FOLDER / 'ndef.rs').write_text(made)
 
 
 main()

@@ -62,7 +62,7 @@ static int c_refusal(uint32_t *reason, uint64_t *place) {
     ndef_record record;
     ndef_laid_out out;
     ndef_default_limits(&limits);
-    ndef_check(message, length, &limits, &checked);
+    if (ndef_check(message, length, &limits, &checked) == NDEF_BAD_ARGUMENT) return 0;
     *reason = checked.reason, *place = checked.place;
     for (ndef_size at = 0; ndef_record_at(message, checked.place, at, &record) == NDEF_OK; at = record.end) {
         if (record.tnf != NDEF_TNF_EXTERNAL || record.type_length != NAME || memcmp(message + record.type_at, "example.com:temp", NAME) != 0) continue;

@@ -1,5 +1,5 @@
 #!/usr/bin/env python3
-"""Compares bindings/rust/README.md with the examples that it shows: each block of Rust after a link to an example is its code, and the
+"""Compares bindings/rust/README.md with the examples that it shows: each block of Rust after the name of an example is its code, and the
 block after that is what its program prints. The word is the folder of the programs. The last line says how many there are."""
 import pathlib
 import re
@@ -7,7 +7,7 @@ import subprocess
 import sys
 
 CRATE = pathlib.Path(__file__).resolve().parents[2] / 'bindings/rust'
-SHOWN = re.compile(r'\[examples/(\w+)\.rs\].*?\n```rust\n(.*?)```\n.*?\n```text\n(.*?)```\n', re.DOTALL)
+SHOWN = re.compile(r'`examples/(\w+)\.rs`.*?\n```rust\n(.*?)```\n.*?\n```text\n(.*?)```\n', re.DOTALL)
 
 sections = (CRATE / 'README.md').read_text(encoding='utf-8').split('\n### ')[1:]
 shown = [found.groups() for found in map(SHOWN.search, sections) if found]

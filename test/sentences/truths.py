@@ -125,8 +125,7 @@ def fixed(scene, noun, name, there, given):
 
 
 def least(scene, noun, name, at_least, given):
-    is_of_it = scene.kind() == name or name == 'U' and may_be_last_uri(scene)
-    return noun == NOUNS.get(name) and is_of_it and LEAST.get(name) == at_least and scene.length() == given < at_least
+    return noun == NOUNS.get(name) and scene.kind() == name and LEAST.get(name) == at_least and scene.length() == given < at_least
 
 
 def select(scene, given):
@@ -213,10 +212,18 @@ def longer_last(scene, size, left):
     return bool(scene.inner) and chunk.last and chunk.known_size() == size < left == scene.left
 
 
-def room_for_next(scene, left):
+def space_for_next(scene, left):
     chunk = scene.chunk
     size = chunk.known_size()
     return bool(scene.inner) and not chunk.last and None not in (size, scene.left) and scene.left - size == left < LEAST_RECORD
+
+
+def after_shortest(scene, left):
+    chunk = scene.chunk
+    if not scene.inner or chunk.last or scene.left is None:
+        return False
+    shortest = max(chunk.least_size(), collision_size(scene)[0] if collision_begins(scene) else 0)
+    return scene.left - shortest == left < LEAST_RECORD
 
 
 def has_no_uri(scene):
@@ -227,6 +234,10 @@ def has_no_uri(scene):
 def may_be_last_uri(scene):
     """Whether the record with the byte has to be the URI of a smart poster, and may be one by what has come of its type."""
     return has_no_uri(scene) and scene.chunk.last and scene.chunk.may_be(b'U')
+
+
+def empty_uri(scene):
+    return has_no_uri(scene) and scene.chunk.last and scene.chunk.payload_length == 0
 
 
 def last_uri(scene, at_least, left):
@@ -342,11 +353,13 @@ FORMS = [(re.compile(words), is_true) for words, is_true in (
     (r'The text in UTF-16 has an odd number of octets\.', even_text),
     (r'The payload ends within a character of the text\.', whole_character),
     (r'The alternative carrier ends before its number of auxiliary references\.', auxiliary_count),
-    (rf'(\d+) (auxiliary reference has|auxiliary references have) at least {OCTETS}; {LEFT}', auxiliary),
+    (rf'(\d+) (auxiliary reference has|auxiliary references have) to follow, of at least {OCTETS}; {LEFT}', auxiliary),
     (rf'This record has at least {OCTETS}; {LEFT}', shorter_record),
     (rf'This record is the last \(ME\) and has {OCTETS}; {LEFT}', longer_last),
-    (rf'Another record has to follow \(ME is clear\), of at least 3 octets; {LEFT}', room_for_next),
+    (rf'Another record has to follow \(ME is clear\), of at least 3 octets; {LEFT}', space_for_next),
+    (rf'After this record at its shortest another has to follow \(ME is clear\), of at least 3 octets; {LEFT}', after_shortest),
     (rf'The last record \(ME\) of this poster has to be its URI \(`U`\), of at least {OCTETS}; {LEFT}', last_uri),
+    (r'The last record \(ME\) of this poster has to be its URI \(`U`\), whose payload is never empty\.', empty_uri),
     (rf'The URI \(`U`\) of this smart poster has to follow \(ME is clear\), in a record of at least {OCTETS}; {LEFT}', uri_to_follow),
     (r'Record (\d+) is the last of this smart poster, and none is a URI \(`U`\)\.', uri_in_poster),
     (r'Record (\d+) is a second URI \(`U`\) in this smart poster\.', one_uri),

@@ -1,5 +1,5 @@
-"""Counts the words of odd_words.txt in comments and documents. A plainer word says what each says, so its count may only go down. Code, strings,
-names between backticks and generated files don't count."""
+"""Counts the words of odd_words.txt in comments and documents, and those that are there `in names` in the names of code. A plainer word says what
+each says, so its count may only go down. Strings, names between backticks and generated files don't count."""
 import pathlib
 import re
 import subprocess
@@ -7,16 +7,20 @@ import sys
 
 TOP = pathlib.Path(__file__).resolve().parents[2]
 sys.path.insert(0, str(TOP / 'test/docs'))
+from budget import GENERATED  # noqa: E402
 from wording import prose  # noqa: E402
 
 FILE = 'test/style/odd_words.txt'
 # What is generated, and what names the words.
-EXEMPT = re.compile(r'dist/|bindings/go/(ndef|calls)\S*\.[ch]$|bindings/rust/src/proved/|docs/(contracts/|CONTRACTS\.md)|CHANGELOG\.md|test/style/|test/docs/(wording\.py|run$)')
+EXEMPT = re.compile(r'dist/|bindings/go/(ndef|calls)\S*\.[ch]$|bindings/rust/src/proved/|CHANGELOG\.md|test/style/|test/docs/(wording\.py|run$)')
 # By the ending of a file: a comment is the last group, and what stands before it is a string.
 SLASHES = r'''"(?:\\.|[^"\\\n])*"|'(?:\\.|[^'\\\n])'|(//[^\n]*|/\*.*?\*/)'''
 DASHES, HASHES = r'(?:^|(?<=\s))(--[^\n]*)', r'(?:^|(?<=\s))(#[^\n]*|""".*?""")'
 KINDS = ((r'\.(rt|rs|c|h|hpp|cpp|m?js|ts|java|kts?|go|ino)$', SLASHES), (r'\.antt$', DASHES), (r'\.(md|1)$', r'(\A.*\Z)'),
          (r'\.(py|sh|fish|in|txt|cmake|toml|ya?ml|edits?|build)$|(^|/)[\w-]+$', HASHES))
+# What has no names in a script.
+QUOTED = r'''("{3}|'{3})(?:\\.|[^\\])*?\1|"(?:\\.|[^"\\\n])*"|'(?:\\.|[^'\\\n])*'|''' + HASHES
+IN_NAMES = ' in names'
 
 
 def read(path, text):
@@ -28,8 +32,19 @@ def read(path, text):
     return prose(comments if path.endswith('.md') else re.sub(r'^[ \t]*(?:/\*+|\*+/?|//[/!]?|--+|#+!?)? ?', '', comments, flags=re.M))
 
 
+def code(path, text):
+    """A file of code without its comments and strings; nothing of another."""
+    is_script = text.startswith('#!') or path.endswith(('.py', '.sh'))
+    pattern = QUOTED if is_script else next((pattern for ending, pattern in KINDS[:2] if re.search(ending, path)), None)
+    return re.sub(pattern, ' ', text, flags=re.M | re.S) if pattern and not (EXEMPT.match(path) or GENERATED.match(path)) else ''
+
+
 def pattern_of(word):
-    return re.compile(r'\b' + r'\s+'.join(word.split()) + r'\b', re.I)
+    part = word.removesuffix(IN_NAMES)
+    if part == word:
+        return re.compile(r'\b' + r'\s+'.join(word.split()) + r'\b', re.I)
+    # A name is taken apart at _ and before a capital.
+    return re.compile(rf'(?:(?<![A-Za-z]){part}|{part.capitalize()})s?(?![a-z])|(?<![A-Z]){part.upper()}S?(?![A-Za-z])')
 
 
 def kept():
@@ -39,8 +54,9 @@ def kept():
 
 
 def counts(files):
-    texts = [read(path, text) for path, text in files]
-    return {word: sum(len(pattern_of(word).findall(text)) for text in texts) for word in kept()}
+    files = list(files)
+    prose_of, names_of = [read(path, text) for path, text in files], [code(path, text) for path, text in files]
+    return {word: sum(len(pattern_of(word).findall(text)) for text in (names_of if word.endswith(IN_NAMES) else prose_of)) for word in kept()}
 
 
 def added(word):

@@ -4,7 +4,10 @@ import { mkdtempSync, rmSync, writeFileSync } from "node:fs";
 import { tmpdir } from "node:os";
 import { join } from "node:path";
 
-const FLAGS = ["--headless", "--no-sandbox", "--disable-gpu", "--hide-scrollbars", "--remote-debugging-pipe", "--no-first-run"];
+// (in a chroot nobody may write /dev/shm)
+const FLAGS = ["--headless", "--no-sandbox", "--disable-gpu", "--hide-scrollbars", "--remote-debugging-pipe", "--no-first-run", "--disable-dev-shm-usage"];
+// The milliseconds after which the browser, or a page that hangs, is given up.
+const LIMIT = 60000;
 // The keys that tests press, with their codes.
 const KEYS = { Tab: 9, Enter: 13, " ": 32, ArrowLeft: 37, ArrowUp: 38, ArrowRight: 39, ArrowDown: 40, End: 35, Home: 36, PageDown: 34, PageUp: 33 };
 
@@ -54,7 +57,10 @@ export class Browser {
     send(method, params = {}) {
         const id = ++this.#number;
         this.#process.stdio[3].write(JSON.stringify({ id, method, params, sessionId: this.#session }) + "\0");
-        return new Promise((take, refuse) => this.#waiting.set(id, { take, refuse }));
+        return new Promise((take, refuse) => {
+            this.#waiting.set(id, { take, refuse });
+            setTimeout(() => refuse(new Error(`no answer to ${method} within ${LIMIT} ms`)), LIMIT).unref();
+        });
     }
 
     // Opens a page and waits until an expression is true in it.
@@ -66,7 +72,7 @@ export class Browser {
     }
 
     async until(condition) {
-        for (let left = 400; left > 0; left--) {
+        for (const end = Date.now() + LIMIT; Date.now() < end;) {
             if (await this.evaluate(condition).catch(() => false)) return;
             await new Promise((go) => setTimeout(go, 25));
         }
@@ -106,6 +112,7 @@ export class Browser {
         const ended = new Promise((done) => this.#process.on("exit", done));
         this.#session = undefined;
         this.send("Browser.close").catch(() => {});
+        setTimeout(() => this.#process.kill("SIGKILL"), LIMIT / 6).unref();
         await ended;
         rmSync(this.#folder, { recursive: true, force: true, maxRetries: 5 });
     }

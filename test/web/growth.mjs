@@ -49,13 +49,13 @@ function timeOf(walk) {
 
 let steep = false;
 function row(name, isLinear, walkOf) {
-    const told = [];
+    const measured = [];
     for (const count of [100, 1000, 10000]) {
-        const before = told[told.length - 1], now = timeOf(walkOf(count));
-        told.push(now);
-        if (isLinear && before !== undefined && now > 35 * before + 2000) { told.push("steep"); steep = true; break; }
+        const before = measured[measured.length - 1], now = timeOf(walkOf(count));
+        measured.push(now);
+        if (isLinear && before !== undefined && now > 35 * before + 2000) { measured.push("steep"); steep = true; break; }
     }
-    console.log(["JavaScript", name, ...told.map((time) => (typeof time === "number" ? time.toFixed(0) : time))].join(" | "));
+    console.log(["JavaScript", name, ...measured.map((time) => (typeof time === "number" ? time.toFixed(0) : time))].join(" | "));
 }
 
 function messages(count) {
@@ -87,16 +87,16 @@ row("links", true, (count) => {
 
 // A stream's steps are waited for, so its time is that of the clock.
 for (const length of [1, 1 << 20]) {
-    const told = [];
+    const measured = [];
     for (const count of [100, 1000, 10000]) {
         const bytes = Uint8Array.from({ length: 3 * count }, (_, at) => (at % 3 ? 0 : 0xd0)), before = performance.now();
         const parts = new Blob([bytes]).stream().pipeThrough(new TransformStream({ transform: (part, controller) => {
             for (let at = 0; at < part.length; at += length) controller.enqueue(part.subarray(at, at + length));
         } }));
-        for await (const _ of parts.pipeThrough(new NDEFDecoderStream())) told.count = (told.count ?? 0) + 1;
-        told.push(1000 * (performance.now() - before));
+        for await (const _ of parts.pipeThrough(new NDEFDecoderStream())) measured.count = (measured.count ?? 0) + 1;
+        measured.push(1000 * (performance.now() - before));
     }
-    if (told.count !== 11100) throw new Error("other messages");
-    console.log(["JavaScript", `messages of a stream in parts of ${length}`, ...told.map((time) => time.toFixed(0))].join(" | "));
+    if (measured.count !== 11100) throw new Error("other messages");
+    console.log(["JavaScript", `messages of a stream in parts of ${length}`, ...measured.map((time) => time.toFixed(0))].join(" | "));
 }
 process.exit(steep ? 1 : 0);

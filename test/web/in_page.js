@@ -8,9 +8,9 @@ const TEXT = "D1 01 08 54 02 65 6E 48 65 6C 6C 6F";
 
 let passed = 0, failed = 0;
 const report = document.createElement("p");
-function look(name, told, wanted) {
-    if (JSON.stringify(told) === JSON.stringify(wanted)) { passed++; return; }
-    if (failed++ < 10) report.append(`FAILED: ${name}: ${JSON.stringify(told)} is not ${JSON.stringify(wanted)}. `);
+function look(name, got, wanted) {
+    if (JSON.stringify(got) === JSON.stringify(wanted)) { passed++; return; }
+    if (failed++ < 10) report.append(`FAILED: ${name}: ${JSON.stringify(got)} is not ${JSON.stringify(wanted)}. `);
 }
 
 // What the page puts off to tasks of their own, in the order in which it is done. A test does it when it wants to.
@@ -52,8 +52,8 @@ function showsCases() {
         look(name, [textOf("verdict"), find("verdict").className], [one.verdict, one.color]);
         if (one.rows) look(name, rows(false).map((row) => row.slice(0, 6)), one.rows);
         if (!one.spans) return;
-        const told = spans(), wrong = one.spans.findIndex((wanted, place) => !told[place] || !isSpan(told[place], wanted, place));
-        look(name, [told.length, told[wrong]?.outerHTML], [one.spans.length, undefined]);
+        const shown = spans(), wrong = one.spans.findIndex((wanted, place) => !shown[place] || !isSpan(shown[place], wanted, place));
+        look(name, [shown.length, shown[wrong]?.outerHTML], [one.spans.length, undefined]);
     });
 }
 
@@ -138,13 +138,13 @@ function showsRows() {
 function showsRemarks() {
     const onRecords = () => [...document.querySelectorAll("#record-part .remark")].map((remark) => [remark.closest("tr").children[0].textContent, remark.textContent]);
     const onFields = () => [...document.querySelectorAll("#field-part .remark")].map((row) => [row.previousSibling.children[1].textContent, row.textContent]);
-    const told = (hex) => { enter(hex); return [onRecords(), onFields()]; };
+    const remarksOn = (hex) => { enter(hex); return [onRecords(), onFields()]; };
     const again = "Another record has the same id.", long = "The payload length 0 fits one octet (SR): the message could be 3 bytes shorter.";
-    look("remarks on two of three records", told("9D000001 61 1D000001 62 5D000001 61"), [[["1", again], ["3", again]], []]);
-    look("a remark on a field of the second message", told("D00000 C00000000000"), [[], [["PAYLOAD_LENGTH", long]]]);
+    look("remarks on two of three records", remarksOn("9D000001 61 1D000001 62 5D000001 61"), [[["1", again], ["3", again]], []]);
+    look("a remark on a field of the second message", remarksOn("D00000 C00000000000"), [[], [["PAYLOAD_LENGTH", long]]]);
     const REFUSED = "9D000001 61 0D0000000000 01 61 D7", POSTER = "D102065370 D10102550061";
-    look("remarks on neither where the message is refused", told(REFUSED), [[], []]);
-    look("at most 500 fields, with warnings", [told("C00000000000".repeat(200))[1].length, document.querySelectorAll("#field-part tbody tr").length],
+    look("remarks on neither where the message is refused", remarksOn(REFUSED), [[], []]);
+    look("at most 500 fields, with warnings", [remarksOn("C00000000000".repeat(200))[1].length, document.querySelectorAll("#field-part tbody tr").length],
         [166, 666]);
     look("a hundred tables", document.querySelectorAll("#record-part table").length, 100);
     const asked = (hex) => { window.asked = 0; enter(hex); return window.asked; };
@@ -155,22 +155,22 @@ function showsRemarks() {
 
 // What may help where bytes are refused, and the button that takes its part of them. The kinds and the places are those of test/faces/hints.txt.
 function showsHints() {
-    const told = (hex) => { enter(hex); return [...document.querySelectorAll("#remarks li")].map((item) => item.textContent); };
+    const hintsOn = (hex) => { enter(hex); return [...document.querySelectorAll("#remarks li")].map((item) => item.textContent); };
     const pressed = () => {
         document.querySelector("#remarks button").click();
         while (putOff.length > 0) doNext();
         return [find("hex").value, textOf("verdict"), find("remarks").hidden];
     };
-    look("no hint for a message, nor for bytes after one", [told(TEXT), find("remarks").hidden, told(`${TEXT} 01 D00000`)], [[], true, []]);
-    look("a tag's memory", told("E1101200 030CD101085402656E48656C6C6FFE"), ["A message of length 12 may begin at byte 6, in an NDEF TLV of a tag. Look from byte 6"]);
+    look("no hint for a message, nor for bytes after one", [hintsOn(TEXT), find("remarks").hidden, hintsOn(`${TEXT} 01 D00000`)], [[], true, []]);
+    look("a tag's memory", hintsOn("E1101200 030CD101085402656E48656C6C6FFE"), ["A message of length 12 may begin at byte 6, in an NDEF TLV of a tag. Look from byte 6"]);
     look("its message", pressed(), [TEXT, "1 message, 1 record, 12 bytes", true]);
-    look("a message after another byte", told("01 D00000"),
+    look("a message after another byte", hintsOn("01 D00000"),
         ["The bytes may begin with what surrounds a message on a tag; a message begins at byte 1. Look from byte 1"]);
     look("that message", pressed(), ["D0 00 00", "1 message, 1 record, 3 bytes", true]);
-    look("an empty tag", told("E1101200 0300FE"), ["This tag is empty: it has no bytes for a message."]);
-    look("digits as bytes", told("44 31 20 30 31"), ["These are hexadecimal digits, not the bytes that they spell: decode them first."]);
-    look("reserved values", told("D7000161"), ["The standard profile reads this: choose “as the standard says” for reserved values."]);
-    look("what was wanted, and no hint", told("D10106543F6162636465"), ["The language code has 63 octets; 5 are left in the payload."]);
+    look("an empty tag", hintsOn("E1101200 0300FE"), ["This tag is empty: it has no bytes for a message."]);
+    look("digits as bytes", hintsOn("44 31 20 30 31"), ["These are hexadecimal digits, not the bytes that they spell: decode them first."]);
+    look("reserved values", hintsOn("D7000161"), ["The standard profile reads this: choose “as the standard says” for reserved values."]);
+    look("what was wanted, and no hint", hintsOn("D10106543F6162636465"), ["The language code has 63 octets; 5 are left in the payload."]);
 }
 
 function showsMessages() {
@@ -218,22 +218,22 @@ function countShown() {
 function slicesOf(hex) {
     enter("");
     beginWith(hex, { options: { ...USUAL, records: 65535 } });
-    const told = [countShown()];
-    while (putOff.length > 0) { doNext(); told.push(countShown()); }
-    return told;
+    const counts = [countShown()];
+    while (putOff.length > 0) { doNext(); counts.push(countShown()); }
+    return counts;
 }
 
 // A slice makes at most 500 elements and one row more, and a message of any length begins to be shown at once.
 const MOST_MADE = 560, FRONT = `900000${"100000".repeat(9998)}`;
 function showsSlices() {
-    const whole = slicesOf(`${FRONT}500000`), [, first] = whole, made = (told) => told.map(({ elements }, index) => elements - (told[index - 1]?.elements ?? 0));
+    const whole = slicesOf(`${FRONT}500000`), [, first] = whole, made = (slices) => slices.map(({ elements }, index) => elements - (slices[index - 1]?.elements ?? 0));
     look("what the slice after the verdict shows", [first.rows.every((count) => count > 0), first.line], [true, `${first.rows[2]} records so far`]);
     look("slices of a whole message", [Math.max(...made(whole)) <= MOST_MADE, whole.length > 16], [true, true]);
     look("all that is shown", [whole.at(-1).rows, whole.at(-1).line], [[128, 500, 500], "9500 records not shown"]);
     const refused = slicesOf(`${FRONT}170000`);
     look("slices of a refused one", [Math.max(...made(refused)) <= MOST_MADE, refused.length > 50], [true, true]);
     look("what it shows", [refused.at(-1).rows[1], refused.at(-1).line, textOf("sound"), document.querySelector("#bytes .refused").dataset.at],
-        [500, "9500 records not shown", "Sound: 9999 whole records of this message, 29997 bytes.", "29997"]);
+        [500, "9500 records not shown", "Valid so far: 9999 whole records of this message, 29997 bytes.", "29997"]);
     beginWith(`${FRONT}500000`, { options: { ...USUAL, records: 65535 } });
     beginWith(TEXT);
     const before = countShown();
@@ -242,7 +242,7 @@ function showsSlices() {
     beginWith(`${FRONT}500000`, { options: { ...USUAL, records: 65535 } });
     beginWith("D1 0G");
     while (putOff.length > 0) doNext();
-    look("a wrong digit too", [countShown().elements, textOf("verdict")], [0, '"G" is no hexadecimal digit.']);
+    look("a wrong digit too", [countShown().elements, textOf("verdict")], [0, '"G" isn\'t a hexadecimal digit.']);
     beginWith("D00000".repeat(10001));
     const soFar = textOf("verdict");
     while (putOff.length > 0) doNext();
@@ -256,7 +256,7 @@ function takesDigits() {
     });
     enter("D1 0G");
     look("no digit", [textOf("verdict"), find("verdict").className, spans().length, rows(true).length, colours(), textOf("detail")],
-        ['"G" is no hexadecimal digit.', "bad", 0, 0, [], ""]);
+        ['"G" isn\'t a hexadecimal digit.', "bad", 0, 0, [], ""]);
     enter("D1 0");
     look("an odd number", textOf("verdict"), "There is an odd number of hexadecimal digits.");
     LIMITS.forEach((name) => {
@@ -363,16 +363,16 @@ async function takesFiles() {
 
 // The bytes of a large file aren't spelled out, and are looked at until others are entered.
 async function takesLargeFile(large) {
-    const given = new DataTransfer(), told = () => [find("hex").value, find("hex").placeholder, textOf("verdict"), find("link").hidden];
+    const given = new DataTransfer(), shown = () => [find("hex").value, find("hex").placeholder, textOf("verdict"), find("link").hidden];
     given.items.add(large);
     document.dispatchEvent(new DragEvent("drop", { dataTransfer: given, cancelable: true }));
     await later(() => find("hex").placeholder !== "");
     const wanted = ["", "65542 bytes of the file tag", "1 message, 1 record, 65542 bytes", true];
-    look("a large file", told(), wanted);
+    look("a large file", shown(), wanted);
     find("payload").dispatchEvent(new Event("input"));
-    look("another limit", told(), wanted);
+    look("another limit", shown(), wanted);
     enter("D00000");
-    look("bytes after it", told(), ["D00000", "", "1 message, 1 record, 3 bytes", false]);
+    look("bytes after it", shown(), ["D00000", "", "1 message, 1 record, 3 bytes", false]);
 }
 
 async function takesAddresses() {
@@ -385,7 +385,7 @@ async function takesAddresses() {
     look("an address", await open("D70000&standard"), ["D7 00 00", "standard", "typed", "1 message, 1 record, 3 bytes"]);
     look("another", await open("D1010154FF&opaque"), ["D1 01 01 54 FF", "strict", "opaque", "1 message, 1 record, 5 bytes"]);
     look("one with both words", await open("D7000141&opaque&standard"), ["D7 00 01 41", "standard", "opaque", "1 message, 1 record, 4 bytes"]);
-    look("one with a wrong digit", await open("D0zz"), ["D0zz", "strict", "typed", '"z" is no hexadecimal digit.']);
+    look("one with a wrong digit", await open("D0zz"), ["D0zz", "strict", "typed", '"z" isn\'t a hexadecimal digit.']);
 }
 
 async function readsTags() {

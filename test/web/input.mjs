@@ -3,7 +3,7 @@ import { bytesOf } from "../../bindings/web/page_input.js";
 import { finish, hexOf, same, test } from "./tests.mjs";
 
 // The bytes in hexadecimal and the form, or what is wrong.
-function told(text) {
+function parsed(text) {
     const { bytes, form, wrong } = bytesOf(text);
     return wrong ?? [hexOf(bytes), form];
 }
@@ -22,21 +22,22 @@ const LAYOUTS = {
     "base64": [LONG, "0QENVAJlbkhlbGxvIHfDtnJs", "0QENVAJlbkhlbGxvIHfDtnJs\n"],
 };
 await test("what tools print is read by its layout", () => Object.entries(LAYOUTS).forEach(([form, [hex, ...texts]]) =>
-    texts.forEach((text) => same([text, told(text)], [text, [hex, form]]))));
-await test("an odd number of bytes in words", () => same(told("0000000 01d1 0054\n0000003"), ["d10154", "output of hexdump, in words of 16 bits"]));
+    texts.forEach((text) => same([text, parsed(text)], [text, [hex, form]]))));
+await test("an odd number of bytes in words", () => same(parsed("0000000 01d1 0054\n0000003"), ["d10154", "output of hexdump, in words of 16 bits"]));
+await test("and where od counts them in octal digits", () => same(parsed("0000000 05d1 5409 6502 486e 0041\n0000011"), ["d105095402656e4841", "output of hexdump, in words of 16 bits"]));
 await test("base64 for URLs, with and without its end", () => {
-    for (const text of ["-_8AAQIDBA", "-_8AAQIDBA==", "+/8AAQIDBA"]) same(told(text), ["fbff0001020304", "base64"]);
-    same(told("-_8AAQIDBAU="), ["fbff000102030405", "base64"]);
-    for (const text of ["-_8AAQIDBA=", "-_8AAQIDB"]) same(/no hexadecimal digit/.test(told(text)), true);
+    for (const text of ["-_8AAQIDBA", "-_8AAQIDBA==", "+/8AAQIDBA"]) same(parsed(text), ["fbff0001020304", "base64"]);
+    same(parsed("-_8AAQIDBAU="), ["fbff000102030405", "base64"]);
+    for (const text of ["-_8AAQIDBA=", "-_8AAQIDB"]) same(/isn't a hexadecimal digit/.test(parsed(text)), true);
 });
-await test("digits of which one is missing are no base64", () => same(told("D1010754026"), "There is an odd number of hexadecimal digits."));
+await test("digits of which one is missing are no base64", () => same(parsed("D1010754026"), "There is an odd number of hexadecimal digits."));
 await test("two digits are hexadecimal, unless they stand in brackets", () => {
-    same(["16, 32, 48", "[16, 32, 48]", "10 20 30", "91, 01, 08", "[91, 01, 08]"].map(told), [["163248", "hexadecimal"], ["102030", "decimal numbers"], ["102030", "hexadecimal"],
+    same(["16, 32, 48", "[16, 32, 48]", "10 20 30", "91, 01, 08", "[91, 01, 08]"].map(parsed), [["163248", "hexadecimal"], ["102030", "decimal numbers"], ["102030", "hexadecimal"],
         ["910108", "hexadecimal"], ["910108", "hexadecimal"]]);
 });
 await test("what is no byte or is left out is said", () => {
-    same([told("[1, 256]"), told("[1, -129]")], ["256 is no byte.", "-129 is no byte."]);
+    same([parsed("[1, 256]"), parsed("[1, -129]")], ["256 is no byte.", "-129 is no byte."]);
     for (const form of ["0000000 00 00\n*\n0000040 00\n0000041", "00000000  00 00  |..|\n*\n00000040"])
-        same(told(form), "The dump leaves out lines that repeat (*): make it anew with the option -v.");
+        same(parsed(form), "The dump leaves out lines that repeat (*): make it again with the option -v.");
 });
 finish();

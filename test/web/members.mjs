@@ -1,5 +1,5 @@
 // node test/web/members.mjs [COUNT]: every member of every answer of ndef.js beside what the calls of ndef.wasm tell, whose
-// structs are read here anew by include/ndef.h: over the cases of the suite, given as lines on standard input, each also with
+// structs are read here again by include/ndef.h: over the cases of the suite, given as lines on standard input, each also with
 // bytes changed and cut off; over what the fuzzer found; and over this many random messages. Each payload is read as every type.
 // Prints 'N passed, M failed'.
 import { readFileSync } from "node:fs";
@@ -10,7 +10,7 @@ const code = readFileSync(new URL("../../out/web/ndef.wasm", import.meta.url));
 const ndef = await Ndef.load(code);
 const c = (await WebAssembly.instantiate(code)).instance.exports;
 const base = (Number(c.__heap_base.value) + 15) & ~15;
-const OUT = 64, WHY = 256, COUNT = 320, ARRAY = 8192, INPUT = 1 << 20, ROOM = 3 << 20;
+const OUT = 64, WHY = 256, COUNT = 320, ARRAY = 8192, INPUT = 1 << 20, BUFFER = 3 << 20;
 c.memory.grow(128);
 
 const view = new DataView(c.memory.buffer), memory = new Uint8Array(c.memory.buffer);
@@ -41,9 +41,9 @@ function same(one, other) {
 }
 
 let passed = 0, failed = 0;
-function look(name, told, wanted, bytes) {
-    if (same(told, wanted)) { passed++; return; }
-    if (failed++ < 20) console.log(`FAILED: ${name} of ${Buffer.from(bytes).toString("hex")}\n ${JSON.stringify(told)}\n ${JSON.stringify(wanted)}`);
+function look(name, got, wanted, bytes) {
+    if (same(got, wanted)) { passed++; return; }
+    if (failed++ < 20) console.log(`FAILED: ${name} of ${Buffer.from(bytes).toString("hex")}\n ${JSON.stringify(got)}\n ${JSON.stringify(wanted)}`);
 }
 
 // The answer of a call that reads a payload: its struct, read by the places of its members; or the refusal.
@@ -57,27 +57,27 @@ const number = (at) => () => u32(OUT + at), place = (at) => () => u64(OUT + at);
 const optional = (at) => () => (u32(OUT + at) ? u32(OUT + at + 4) : null);
 
 function texts(bytes) {
-    const told = read("ndef_text", bytes, {
+    const result = read("ndef_text", bytes, {
         languageAt: place(0), languageLength: place(8), textAt: place(16), textLength: place(24), utf16: () => u32(OUT + 32) === 1,
     });
-    if (told.status === 0) {
-        told.language = textAt(INPUT + told.languageAt, told.languageLength);
-        c.ndef_text_in_utf8(...put(bytes), base + ROOM, BigInt(1 << 20), base + COUNT, base + WHY);
-        told.text = textAt(ROOM, u64(COUNT));
+    if (result.status === 0) {
+        result.language = textAt(INPUT + result.languageAt, result.languageLength);
+        c.ndef_text_in_utf8(...put(bytes), base + BUFFER, BigInt(1 << 20), base + COUNT, base + WHY);
+        result.text = textAt(BUFFER, u64(COUNT));
     }
-    return told;
+    return result;
 }
 
 function uris(bytes, flags) {
-    const status = c.ndef_uri(...put(bytes), flags, base + ROOM, BigInt(1 << 20), base + COUNT, base + WHY);
+    const status = c.ndef_uri(...put(bytes), flags, base + BUFFER, BigInt(1 << 20), base + COUNT, base + WHY);
     if (status === 1) return { status, place: u64(WHY), records: u32(WHY + 8), reason: u32(WHY + 12) };
-    return status ? { status } : { status, text: textAt(ROOM, u64(COUNT)) };
+    return status ? { status } : { status, text: textAt(BUFFER, u64(COUNT)) };
 }
 
 function posters(bytes, flags) {
-    const told = read("ndef_poster", bytes, { uriAt: place(0), uriLength: place(8), action: optional(16), size: optional(24) }, flags);
-    if (told.status === 0) told.uri = uris(bytes.slice(told.uriAt, told.uriAt + told.uriLength), flags).text;
-    return told;
+    const result = read("ndef_poster", bytes, { uriAt: place(0), uriLength: place(8), action: optional(16), size: optional(24) }, flags);
+    if (result.status === 0) result.uri = uris(bytes.slice(result.uriAt, result.uriAt + result.uriLength), flags).text;
+    return result;
 }
 
 const requests = (bytes, flags) => read("ndef_request", bytes, { carriers: place(0), major: number(8), minor: number(12), collision: number(16) }, flags);
@@ -88,20 +88,20 @@ const carriers = (bytes) => read("ndef_carrier", bytes, { typeAt: place(0), type
 const errors = (bytes) => read("ndef_error", bytes, { dataAt: place(0), dataLength: place(8), errorReason: number(16), number: optional(20) });
 
 function alternatives(bytes) {
-    const told = read("ndef_alternative", bytes, { power: number(0) });
-    if (told.status !== 0) return told;
-    told.references = [];
-    for (let index = 0n; c.ndef_reference(...put(bytes), index, base + OUT) === 0; index++) told.references.push({ at: u64(OUT), length: u64(OUT + 8) });
-    return told;
+    const result = read("ndef_alternative", bytes, { power: number(0) });
+    if (result.status !== 0) return result;
+    result.references = [];
+    for (let index = 0n; c.ndef_reference(...put(bytes), index, base + OUT) === 0; index++) result.references.push({ at: u64(OUT), length: u64(OUT + 8) });
+    return result;
 }
 
 function links(bytes, payload) {
-    const message = put(bytes), handover = put(payload, INPUT + bytes.length), told = [];
+    const message = put(bytes), handover = put(payload, INPUT + bytes.length), result = [];
     for (let index = 0n; c.ndef_link_at(...message, ...handover, index, base + OUT) === 0; index++) {
         const has = u32(OUT + 32) === 1;
-        told.push({ carrierAt: u64(OUT), carrierLength: u64(OUT + 8), recordIndex: has ? u64(OUT + 16) : null, recordAt: has ? u64(OUT + 24) : null });
+        result.push({ carrierAt: u64(OUT), carrierLength: u64(OUT + 8), recordIndex: has ? u64(OUT + 16) : null, recordAt: has ? u64(OUT + 24) : null });
     }
-    return told;
+    return result;
 }
 
 function payloads(bytes, profiles) {
@@ -127,22 +127,22 @@ const RECORD = ["at", "end", "typeAt", "typeLength", "idAt", "idLength", "payloa
 function record(bytes, at, within) {
     const input = put(bytes), status = c.ndef_record_at(...input, BigInt(at), base + OUT);
     if (status !== 0) return { status };
-    const told = { status, tnf: u32(OUT + 80), last: u32(OUT + 84) === 1, kind: c.ndef_kind(...input, base + OUT, within) };
-    RECORD.forEach((name, index) => { told[name] = u64(OUT + 8 * index); });
-    c.ndef_payload(...input, BigInt(at), base + ROOM, BigInt(1 << 21), base + COUNT);
-    const payload = bytesAt(ROOM, u64(COUNT));
+    const result = { status, tnf: u32(OUT + 80), last: u32(OUT + 84) === 1, kind: c.ndef_kind(...input, base + OUT, within) };
+    RECORD.forEach((name, index) => { result[name] = u64(OUT + 8 * index); });
+    c.ndef_payload(...input, BigInt(at), base + BUFFER, BigInt(1 << 21), base + COUNT);
+    const payload = bytesAt(BUFFER, u64(COUNT));
     const part = (from, length) => bytes.slice(from, from + length);
-    return { ...told, payload, type: part(told.typeAt, told.typeLength), id: part(told.idAt, told.idLength) };
+    return { ...result, payload, type: part(result.typeAt, result.typeLength), id: part(result.idAt, result.idLength) };
 }
 
 function recordsOf(bytes, within) {
     const wanted = [];
     for (let at = 0; ;) {
-        const told = record(bytes, at, within);
-        if (told.status !== 0) return wanted;
-        wanted.push(told);
-        if (told.last) return wanted;
-        at = told.end;
+        const result = record(bytes, at, within);
+        if (result.status !== 0) return wanted;
+        wanted.push(result);
+        if (result.last) return wanted;
+        at = result.end;
     }
 }
 
@@ -150,12 +150,12 @@ function recordsOf(bytes, within) {
 function records(bytes, profiles, chosen) {
     const wanted = recordsOf(bytes, 0);
     look("records", ndef.records(bytes), wanted, bytes);
-    wanted.slice(0, 20).filter(chosen).forEach((told) => {
-        look(`recordAt ${told.at}`, ndef.recordAt(bytes, told.at), told, bytes);
-        const { payload } = told, inner = payload.subarray(told.kind === 3 ? 0 : 1);
+    wanted.slice(0, 20).filter(chosen).forEach((one) => {
+        look(`recordAt ${one.at}`, ndef.recordAt(bytes, one.at), one, bytes);
+        const { payload } = one, inner = payload.subarray(one.kind === 3 ? 0 : 1);
         look("links", ndef.links(bytes, payload), links(bytes, payload), bytes);
-        look(`records within ${told.kind}`, ndef.records(inner, told.kind), recordsOf(inner, told.kind), inner);
-        look(`recordAt 0 within ${told.kind}`, ndef.recordAt(inner, 0, told.kind), record(inner, 0, told.kind), inner);
+        look(`records within ${one.kind}`, ndef.records(inner, one.kind), recordsOf(inner, one.kind), inner);
+        look(`recordAt 0 within ${one.kind}`, ndef.recordAt(inner, 0, one.kind), record(inner, 0, one.kind), inner);
         if (payload.length < 5000) payloads(payload, profiles);
     });
     for (const at of [1, bytes.length, bytes.length + 1]) look(`recordAt ${at}`, ndef.recordAt(bytes, at), record(bytes, at, 0), bytes);
@@ -167,8 +167,8 @@ const valueOf = ({ status, language, text, utf16, place, reason }) => ({ status,
 function reads(bytes, options, flags) {
     const how = { ...options, flags }, answer = ndef.check(bytes, how), wanted = answer.status === Ndef.OK ? recordsOf(bytes, 0) : null;
     const values = wanted?.filter(({ kind }) => kind === 1 || kind === 2).map(({ kind, payload }) => valueOf(kind === 1 ? texts(payload) : uris(payload, flags & 1)));
-    const { items, ...told } = ndef.read(bytes, how);
-    look(`what is read with ${flags}`, [told, items === null], [answer, wanted === null], bytes);
+    const { items, ...result } = ndef.read(bytes, how);
+    look(`what is read with ${flags}`, [result, items === null], [answer, wanted === null], bytes);
     for (const all of items === null ? [] : [items, ndef.items(bytes, flags)]) {
         const given = all.filter(({ kind }) => kind === 1 || kind === 2);
         look(`records with ${flags}`, all.map(partsOf), wanted.map(partsOf), bytes);
@@ -176,7 +176,7 @@ function reads(bytes, options, flags) {
     }
 }
 
-const named = (call, value) => (c[call](value, base + ROOM, 80n, base + COUNT) === 0 ? textAt(ROOM, u64(COUNT)) : null);
+const named = (call, value) => (c[call](value, base + BUFFER, 80n, base + COUNT) === 0 ? textAt(BUFFER, u64(COUNT)) : null);
 const FIELD_NAMES = Array.from({ length: 64 }, (_, value) => named("ndef_field_name", value));
 
 function checks(bytes, options, flags) {

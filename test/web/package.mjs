@@ -61,23 +61,6 @@ await test("a message has a frozen list", () => {
     const { records } = decode(bytesOf("900000500000"));
     same([Object.isFrozen(records), records.length, records.every((record) => record instanceof NDEFRecord)], [true, 2, true]);
 });
-await test("the value of each type", () => {
-    same(recordOf("D1 01 07 54 82 656E FEFF 20AC").value, { text: "€", language: "en", utf16: true });
-    same(recordOf("D1 01 03 55 04 612E").value, { uri: "https://a." });
-    same(recordOf(recordHex("D1", "Sp", POSTER)).value, {
-        uri: "a", titles: [{ text: "H", language: "en", utf16: false }], action: 1, size: 1000, mediaType: "a/b",
-        icons: [{ mediaType: "image/png", data: bytesOf("0102") }],
-    });
-    same(recordOf("D1 02 06 5370 D1 01 02 55 00 61").value, { uri: "a", titles: [], action: null, size: null, mediaType: null, icons: [] });
-    same(recordOf(recordHex("D1", "Hr", REQUEST)).value,
-        { major: 1, minor: 2, collision: 258, carriers: [{ power: 3, reference: "0", auxiliary: ["1"] }] });
-    same(recordOf(recordHex("D1", "Hs", SELECT)).value, {
-        major: 1, minor: 3, carriers: [{ power: 1, reference: bytesOf("FF30"), auxiliary: [] }], error: { reason: 2, data: bytesOf("00000104"), number: 260 },
-    });
-    same(recordOf("D1 02 01 4873 12").value, { major: 1, minor: 2, carriers: [], error: null });
-    same(recordOf("D1 02 06 4863 02 03 612F62 07").value, { format: 2, type: "a/b", data: bytesOf("07") });
-    same([recordOf("D00000").value, recordOf("D5000107").value, recordOf("D1010178 54").value], [null, null, null]);
-});
 await test("records within", () => {
     const types = (hex) => recordOf(hex).toRecords()?.map((record) => [record.recordType, record.kind]) ?? null;
     same(types(recordHex("D1", "Sp", POSTER)), [["url", 2], ["text", 1], [":act", 7], [":s", 8], [":t", 9], ["mime", 0]]);
@@ -243,9 +226,9 @@ await test("a record is shown and told in JSON", () => {
 await test("a poster is what was checked, whatever becomes of the caller's bytes", () => {
     const { poster } = Ndef.prototype, data = bytesOf("D10102550061");
     Ndef.prototype.poster = function (...given) {
-        const told = poster.apply(this, given);
+        const answer = poster.apply(this, given);
         data.fill(0xff);
-        return told;
+        return answer;
     };
     const record = new NDEFRecord({ recordType: "smart-poster", data });
     Ndef.prototype.poster = poster;
@@ -305,8 +288,9 @@ await test("payloads that weren't checked are refused where they are read", () =
 await test("an error says where and why", () => {
     const error = throws(NdefError, () => decode(bytesOf("D1010254 0261")));
     same([error instanceof Error, error.place, error.reason, error.name, error.sentence, error.message],
-        [true, 4, 23, "DoesNotFit", calls.reasonSentence(23), `refused at byte 4: ${calls.reasonSentence(23)}`]);
-    same([NdefError.prototype.name, String(error).startsWith("DoesNotFit: refused at byte ")], ["NdefError", true]);
+        [true, 4, 23, "DoesNotFit", calls.reasonSentence(23), `refused at 4: DoesNotFit: ${calls.reasonSentence(23)}`]);
+    same([new NDEFRecord({ recordType: "text", data: "a" }), decode(bytesOf("D00000"))].map((made) => Object.prototype.toString.call(made)), ["[object NDEFRecord]", "[object NDEFMessage]"]);
+    same([NdefError.prototype.name, String(error).startsWith("NdefError: refused at 4: DoesNotFit: ")], ["NdefError", true]);
 });
 await test("other bytes after a message", () => {
     const bytes = bytesOf("D0000007");
@@ -314,35 +298,6 @@ await test("other bytes after a message", () => {
     const { place, reason, name, sentence } = throws(NdefError, () => decode(bytes));
     same([place, reason, name, sentence], [3, 0, "TrailingBytes", "Other bytes follow the message."]);
     same(check(bytes), { length: 3, records: 1 });
-});
-await test("every case of the suite is answered", () => all.forEach(({ bytes, options, isAccepted, place, reason, line }) => {
-    if (isAccepted) {
-        const { message, length } = decodePrefix(bytes, options);
-        same([length, check(bytes, options), line], [place, { length: place, records: message.records.length }, line]);
-        same(encode(message, options), calls.normalize(bytes).bytes);
-        return;
-    }
-    for (const read of [check, decode, decodePrefix]) {
-        const error = throws(NdefError, () => read(bytes, options));
-        same([error.place, error.reason, error.name, error.sentence, line], [place, reason, calls.reasonName(reason), calls.reasonSentence(reason), line]);
-    }
-}));
-await test("every case of the suite is explained", () => all.filter(({ options }) => !options.opaque).forEach(({ bytes, options, isAccepted, place, reason, line }) => {
-    const told = explain(bytes, options), sum = told.fields.reduce((total, { length }) => total + length, 0);
-    same([told.length, sum, told.refusal?.reason ?? 0, line], [place, place, isAccepted ? 0 : reason, line]);
-    same(told.records.map((record) => record.payload), calls.records(bytes.subarray(0, place)).map(({ payload }) => payload));
-    if (isAccepted) same(fields(bytes, options), told.fields);
-    else same(throws(NdefError, () => fields(bytes, options)).place, place);
-}));
-// RTD Text 1.0 and RTD URI 1.0 say what is wrong with the bytes.
-await test("why bytes are refused, and what may help", () => {
-    const long = bytesOf("D1 01 06 54 3F 61 62 63 64 65"), uri = bytesOf("D1 01 06 55 68 74 74 70 3A 2F"), good = bytesOf("D00000");
-    same([why(long), hint(long)], ["The language code has 63 octets; 5 are left in the payload.", null]);
-    same(hint(uri.buffer), "68 (hexadecimal) is the letter h: was the identifier code left out?");
-    same([why(good), hint(good), why(long, { opaque: true }), why(uri, { standard: true })], [null, null, why(long), null]);
-    same([why(good, { payload: 1 }), why(bytesOf("D5000201 02"), { payload: 1 }) === null], [null, false]);
-    for (const say of [why, hint]) for (const wrong of ["d00000", null, [1]]) throws(TypeError, () => say(wrong));
-    for (const say of [why, hint]) throws(TypeError, () => say(good, 1));
 });
 await test("what may help, for a program", () => {
     const rows = readFileSync(new URL("../faces/hints.txt", import.meta.url), "utf8").trim().split("\n").filter((line) => !line.startsWith("#"));
@@ -366,16 +321,6 @@ await test("what may help, for a program", () => {
     for (const wrong of ["d00000", null, [1]]) throws(TypeError, () => findHint(wrong));
     throws(TypeError, () => findHint(tag, 1));
 });
-await test("links of a handover", () => {
-    const select = "12" + recordHex("91", "ac", "01 01 30 00") + recordHex("11", "ac", "00 01 31 00") + recordHex("51", "ac", "02 00 00");
-    const message = decode(bytesOf(recordHex("91", "Hs", select) + recordHex("1A", "a/b", "", "0") + recordHex("5A", "a/c", "", "0")));
-    same(links(message).map(({ record, ...rest }) => [rest, record?.mediaType ?? null]), [
-        [{ power: 1, reference: "0", auxiliary: [], index: 1 }, "a/b"], [{ power: 0, reference: "1", auxiliary: [], index: null }, null],
-        [{ power: 2, reference: "", auxiliary: [], index: null }, null],
-    ]);
-    same([links(message)[0].record === message.records[1], links(decode(bytesOf("D00000")))], [true, []]);
-});
-
 await test("the payloads of records that were read unchecked are refused where their values are asked for", () => {
     const itemOf = (hex) => calls.read(bytesOf(hex), { flags: Ndef.OPAQUE }).items[0];
     same([calls.textOf(itemOf("D1 01 02 54 42 61")).status, calls.uriOf(itemOf("D1 01 02 55 24 61"), 0).status], [Ndef.REFUSED, Ndef.REFUSED]);

@@ -55,18 +55,18 @@ function caseOf(fields, profile, opaque) {
     const [, , , , , , limits, hex, answer, records] = fields, bytes = fromHex(hex), words = limits.split(" ");
     const flags = (profile === "standard" ? Ndef.STANDARD : 0) | (opaque ? Ndef.OPAQUE : 0), options = ndef.defaultLimits();
     for (const name of ["payload", "records", "pieces"]) if (words.includes(name)) options[name === "pieces" ? "chunks" : name] = Number(words[words.indexOf(name) + 1]);
-    const [word, place, number] = answer.split(" "), told = { hex: upper(bytes), profile, payloads: opaque ? "opaque" : "typed", options };
+    const [word, place, number] = answer.split(" "), common = { hex: upper(bytes), profile, payloads: opaque ? "opaque" : "typed", options };
     if (word === "accepted") {
         const rows = records.split(","), all = ndef.records(bytes);
         if (Number(place) !== bytes.length) return null;
         return {
-            ...told, verdict: `1 message, ${plural(rows.length, "record")}, ${plural(bytes.length, "byte")}`, color: "good",
+            ...common, verdict: `1 message, ${plural(rows.length, "record")}, ${plural(bytes.length, "byte")}`, color: "good",
             rows: rows.map((row, index) => rowOf(row, index, all[index])), spans: opaque ? null : spansOf(bytes, { ...options, flags }, null),
         };
     }
     const reason = word === "more" ? 24 : Number(number), end = Number(place) === bytes.length ? " (the end of the input)" : "";
     const verdict = `Refused at byte ${place}${end}, reason ${reason}, ${ndef.reasonName(reason)}: ${ndef.reasonSentence(reason)}`;
-    return { ...told, verdict, color: "bad", rows: null, spans: opaque ? null : spansOf(bytes, { ...options, flags }, Number(place)) };
+    return { ...common, verdict, color: "bad", rows: null, spans: opaque ? null : spansOf(bytes, { ...options, flags }, Number(place)) };
 }
 
 const cases = [];
@@ -93,6 +93,22 @@ WebAssembly.instantiate = async (...given) => {
 };
 window.asked = 0;`;
 
+// What the policy of the page has to refuse: a script, a style, a picture, a frame, a base and a request that aren't its own.
+const STRANGE = `new Promise((done) => {
+    const refused = new Set(), WANTED = 6;
+    document.addEventListener("securitypolicyviolation", ({ effectiveDirective }) => {
+        if (refused.add(effectiveDirective).size === WANTED) done([...refused].sort().join(" "));
+    });
+    setTimeout(() => done([...refused].sort().join(" ")), 5000);
+    const put = (name, members) => document.body.append(Object.assign(document.createElement(name), members));
+    put("script", { textContent: "window.strange = 1" });
+    put("style", { textContent: "body { color: red }" });
+    put("img", { src: "https://example.org/a.png" });
+    put("iframe", { src: "https://example.org/" });
+    put("base", { href: "https://example.org/" });
+    fetch("https://example.org/").catch(() => {});
+})`;
+
 const browser = await Browser.start();
 try {
     for (const source of [READER, COUNTER]) await browser.send("Page.addScriptToEvaluateOnNewDocument", { source });
@@ -103,6 +119,11 @@ try {
     console.log(report.replaceAll(". FAILED", ".\nFAILED").replace(/([0-9]+ passed, [0-9]+ failed)$/, "\n$1").trim());
     process.exitCode = / passed, 0 failed$/.test(report) && browser.faults.length === 0 ? 0 : 1;
     browser.faults.forEach((fault) => console.log(`FAILED: ${fault}`));
+    const refused = await browser.evaluate(STRANGE);
+    if (refused !== "base-uri connect-src frame-src img-src script-src-elem style-src-elem") {
+        console.log(`FAILED: the policy of the page refuses ${refused}`);
+        process.exitCode = 1;
+    }
 } finally {
     await browser.stop();
 }

@@ -8,7 +8,7 @@ import { finish, same, test } from "./tests.mjs";
 
 const folder = process.argv[2], STRICT = "default-src 'none'; script-src 'self'";
 const PROGRAM = `import { NDEFDecoderStream, decode, encode, ready } from "./index.js";
-window.told = (async () => {
+window.result = (async () => {
     try {
         if (location.pathname === "/later") await ready();
         const [record] = decode(Uint8Array.of(0xd1, 1, 8, 0x54, 2, 0x65, 0x6e, 0x48, 0x65, 0x6c, 0x6c, 0x6f)).records;
@@ -41,11 +41,11 @@ const server = createServer(({ url }, answer) => {
 await new Promise((done) => server.listen(0, "127.0.0.1", done));
 
 const browser = await Browser.start(), own = `http://127.0.0.1:${server.address().port}`;
-const told = async (page) => { await browser.open(own + page, "window.told !== undefined"); return browser.evaluate("window.told"); };
+const resultOf = async (page) => { await browser.open(own + page, "window.result !== undefined"); return browser.evaluate("window.result"); };
 try {
-    await test("a page decodes, encodes and reads a stream", async () => same(await told("/page"), ["Hello", "http://a"]));
-    await test("a page compiles the library first", async () => same(await told("/later"), ["Hello", "http://a"]));
-    await test("a page without wasm-unsafe-eval has no library", async () => same(await told("/closed"),
+    await test("a page decodes, encodes and reads a stream", async () => same(await resultOf("/page"), ["Hello", "http://a"]));
+    await test("a page compiles the library first", async () => same(await resultOf("/later"), ["Hello", "http://a"]));
+    await test("a page without wasm-unsafe-eval has no library", async () => same(await resultOf("/closed"),
         "the Content Security Policy forbids WebAssembly: its script-src needs 'wasm-unsafe-eval'"));
     await test("it asks for modules alone", () => same(asked.filter((url) => !/^\/(page|later|closed|favicon\.ico|[a-z_]+\.m?js)$/.test(url)), []));
     await test("nothing is asked of others", () => same(browser.requests.filter((url) => !url.startsWith(own)), []));

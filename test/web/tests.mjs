@@ -24,8 +24,8 @@ export function shown(value) {
     });
 }
 
-export function same(told, wanted) {
-    if (shown(told) !== shown(wanted)) throw new Error(`${shown(told)} is not ${shown(wanted)}`);
+export function same(got, wanted) {
+    if (shown(got) !== shown(wanted)) throw new Error(`${shown(got)} is not ${shown(wanted)}`);
 }
 
 // What a call throws.

@@ -13,7 +13,7 @@ const { length, records }: { length: number; records: number } = check(bytes.buf
 const prefix: { message: NDEFMessage; length: number } = decodePrefix(new DataView(bytes.buffer), {});
 const text: string | null = record.text, data: DataView | null = record.data, value: Value | null = record.value;
 const within: NDEFRecord[] | null = record.toRecords();
-const found: Field[] = fields(bytes), told: Explained = explain(bytes), linked: Link[] = links(message);
+const found: Field[] = fields(bytes), explained: Explained = explain(bytes), linked: Link[] = links(message);
 const written: Uint8Array = encode({ records: [{ recordType: "text", data: "a", lang: "en" }, record, { tnf: 5, payload: bytes }] });
 encode(message);
 const pages: Uint8Array[] = [...encodeParts({ records: [record, { recordType: "mime", mediaType: "a/b", parts: [bytes], length: 3 }] }, { size: 16, unchecked: true })];
@@ -92,4 +92,4 @@ smartPoster({ titles: [] });
 // @ts-expect-error: a refused answer has no text
 Calls.load(code).then((calls) => calls.text(bytes).text);
 
-export { at, done, found, isError, kind, length, linked, missing, place, prefix, records, sentence, text, data, told, within, written };
+export { at, done, found, isError, kind, length, linked, missing, place, prefix, records, sentence, text, data, explained, within, written };

@@ -23,10 +23,10 @@ const READER = `window.NDEFReader = class extends EventTarget {
 };`;
 
 let passed = 0, failed = 0;
-function look(name, told, wanted) {
-    if (JSON.stringify(told) === JSON.stringify(wanted)) { passed++; return; }
+function look(name, got, wanted) {
+    if (JSON.stringify(got) === JSON.stringify(wanted)) { passed++; return; }
     failed++;
-    console.log(`FAILED: ${name}: ${JSON.stringify(told)} is not ${JSON.stringify(wanted)}`);
+    console.log(`FAILED: ${name}: ${JSON.stringify(got)} is not ${JSON.stringify(wanted)}`);
 }
 
 const browser = await Browser.start(), folder = mkdtempSync(join(tmpdir(), "use-"));
@@ -70,7 +70,7 @@ async function dumps() {
     }
     for (const wrong of ["0QEI", "D1 0G D1 0G", "QUJD*EFG"]) {
         await give("hex", wrong);
-        look(`${wrong} isn't taken`, [/^".*" is no hexadecimal digit\.$/.test(await text("verdict")), await text("form"), await text("field-part")], [true, "", ""]);
+        look(`${wrong} isn't taken`, [/^".*" isn't a hexadecimal digit\.$/.test(await text("verdict")), await text("form"), await text("field-part")], [true, "", ""]);
     }
     return { file, hex };
 }
@@ -117,7 +117,7 @@ const FAULTS = [
     ["Handover request", { collision: "65536", carriers: "" },
         "A handover request can't be written: its random number is above 65535"],
     ["Media type", { mediaType: "", payload: "" }, "A record can't be written: a record of its type name format needs a type"],
-    ["Unknown", { payload: "0g", layout: "bytes (hexadecimal or base64)" }, '"g" is no hexadecimal digit.'],
+    ["Unknown", { payload: "0g", layout: "bytes (hexadecimal or base64)" }, "\"g\" isn't a hexadecimal digit."],
     ["Text", { data: "a", lang: "en", id: "x".repeat(256) }, "A record can't be written: its id has more than 255 bytes"],
 ];
 
@@ -139,6 +139,17 @@ async function writes() {
 }
 
 // Type 2 tags: 03, the length in one byte or in three, and the message; NXP says what an NTAG213, 215 and 216 are delivered with.
+// A URI that is copied from elsewhere has its scheme.
+async function pasted() {
+    await click("write-clear");
+    for (const [kind, field] of [["URI", "data"], ["Smart poster", "uri"], ["Absolute URI", "type"]]) {
+        await give("write-kind", kind);
+        await focus(`field-${field}`);
+        await browser.send("Input.insertText", { text: "https://www.a.b/" });
+        look(`a URI is pasted into ${kind}`, await value(`field-${field}`), "https://www.a.b/");
+    }
+}
+
 async function fits() {
     const fitOf = async (length) => {
         await click("write-clear");
@@ -246,9 +257,9 @@ const ORDER = ["jump", "hex", "file", "scan", "link", "text", "URI", "smart post
 
 async function keys() {
     await browser.open(PAGE, READY);
-    const told = [];
-    for (let left = ORDER.length; left > 0; left--) { await press("Tab"); told.push(await focused()); }
-    look("the order of the tab key", told, ORDER);
+    const order = [];
+    for (let left = ORDER.length; left > 0; left--) { await press("Tab"); order.push(await focused()); }
+    look("the order of the tab key", order, ORDER);
     await browser.evaluate('document.querySelector("#bytes [data-at]").focus()');
     await press("ArrowRight", "ArrowDown", "End", "Home", "PageDown", "ArrowRight");
     look("arrow keys in the bytes", await text("detail"), "Byte 1: 01, record 1, TYPE_LENGTH");
@@ -282,12 +293,12 @@ const CONTRAST = `(() => {
     const parse = (colour) => colour.match(/[0-9.]+/g).map(Number);
     const light = (colour) => parse(colour).slice(0, 3).map((part) => part / 255).map((part) => (part <= 0.03928 ? part / 12.92 : ((part + 0.055) / 1.055) ** 2.4))
         .reduce((sum, part, index) => sum + part * [0.2126, 0.7152, 0.0722][index], 0);
-    const behind = (one) => { for (; one; one = one.parentElement) { const colour = getComputedStyle(one).backgroundColor; if (parse(colour)[3] !== 0) return colour; } };
+    const backgroundOf = (one) => { for (; one; one = one.parentElement) { const colour = getComputedStyle(one).backgroundColor; if (parse(colour)[3] !== 0) return colour; } };
     const faint = [];
     for (const one of document.body.querySelectorAll("*")) {
         const own = [...one.childNodes].some((node) => node.nodeType === 3 && node.textContent.trim()) || one.matches("textarea, input, select");
         if (!own || one.disabled || one.matches("script, style") || !one.checkVisibility()) continue;
-        const [high, low] = [light(getComputedStyle(one).color), light(behind(one) ?? "rgb(255, 255, 255)")].sort((a, b) => b - a);
+        const [high, low] = [light(getComputedStyle(one).color), light(backgroundOf(one) ?? "rgb(255, 255, 255)")].sort((a, b) => b - a);
         if ((high + 0.05) / (low + 0.05) < 4.5) faint.push(one.outerHTML.slice(0, 80));
     }
     return faint;
@@ -325,7 +336,7 @@ try {
     await browser.size(1100, 900);
     await browser.open(PAGE, READY);
     await files(await dumps());
-    for (const test of [writes, fits, lists, tags, loads, keys, read, forced, looks]) await test();
+    for (const test of [writes, pasted, fits, lists, tags, loads, keys, read, forced, looks]) await test();
     look("requests", [...new Set(browser.requests.map((url) => url.split("#")[0]))], [PAGE]);
     look("faults", browser.faults, []);
 } finally {

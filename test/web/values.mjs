@@ -1,6 +1,7 @@
 // node test/web/values.mjs: what ndef.js takes for bytes, numbers and options, and what it answers to several messages.
 // Prints 'N passed, M failed'.
 import { readFileSync } from "node:fs";
+import { links } from "../../out/web/index.js";
 import { Ndef } from "../../out/web/ndef.js";
 
 const ndef = await Ndef.load(readFileSync(new URL("../../out/web/ndef.wasm", import.meta.url)));
@@ -73,7 +74,7 @@ test("a limit that isn't a whole number of 32 bits is a RangeError", () => every
     WRAPPED.every((value) => throws(RangeError, () => ndef[call](EMPTY, { [name]: value })))));
 test("a limit that is no number is a TypeError", () => everywhere((call, name) =>
     ["1", null, true, 1n, {}, [1]].every((value) => throws(TypeError, () => ndef[call](EMPTY, { [name]: value })))));
-test("a limit that the library refuses is a RangeError", () => CHECKS.every((call) =>
+test("a limit that the library refuses is a RangeError", () => [...CHECKS, "why", "hint", "findHint"].every((call) =>
     [{ payload: 0 }, { records: 0 }, { chunks: 0 }, { records: 65536 }, { chunks: 65536 }, { flags: 4 }].every((options) =>
         throws(RangeError, () => ndef[call](EMPTY, options)))));
 test("a limit that is refused is named with the others", () => {
@@ -124,8 +125,8 @@ test("records have bytes of their own", () => {
     return Buffer.from(record.payload).toString("latin1") === "\x02enHello" && Buffer.from(record.type).toString() === "T";
 });
 test("all references are given", () => {
-    const told = ndef.alternative(CARRIER);
-    return told.power === 1 && told.references.map(({ at, length }) => `${at} ${length}`).join() === "2 1,5 1,7 1"
+    const value = ndef.alternative(CARRIER);
+    return value.power === 1 && value.references.map(({ at, length }) => `${at} ${length}`).join() === "2 1,5 1,7 1"
         && same(Object.keys(ndef.alternative(fromHex("00"))), ["status", "place", "records", "reason"]);
 });
 test("two links are told, and the second refers to no record", () => {
@@ -135,6 +136,22 @@ test("two links are told, and the second refers to no record", () => {
     return same(links.map((link) => [link.recordIndex, link.recordAt, link.carrierLength]), [[1, 31, 4], [null, null, 4]])
         && ndef.links(message, EMPTY).length === 0;
 });
+
+// "Hello" has 7 fields: at 0, 1, 2, 3, 4, 5 and 7.
+const at = ({ fields }) => fields.map((field) => field.at);
+test("the fields of a part of a message", () => same(at(ndef.firstFields(HELLO, 3)), [0, 1, 2]) && at(ndef.firstFields(HELLO, 9)).length === 7
+    && same(at(ndef.fieldsWithin(HELLO, 4, 7)), [4, 5]) && same(at(ndef.fieldsWithin(HELLO, 6, 8)), [5, 7]) && same(at(ndef.fieldsWithin(HELLO, 0, 0)), []));
+test("the records of a part of a message", () => same(ndef.recordsFrom(fromHex("910000 110000 510000"), 3, 1), ndef.records(fromHex("910000 110000 510000")).slice(1, 2))
+    && throws(RangeError, () => ndef.recordsFrom(EMPTY, -1, 1)));
+test("a message in the other form, and a handover of version 1.2 without carriers", () =>
+    same([...ndef.normalize(fromHex("C10100000001 54 00")).bytes], [...fromHex("D1010154 00")])
+    && same([...ndef.normalize(fromHex("D1010154 00"), Ndef.WRITE_LONG).bytes], [...fromHex("C10100000001 54 00")])
+    && same([...ndef.writeHandover(true, 1, 2).bytes], [0x12]));
+test("a request of a collision number and a carrier", () => {
+    const message = fromHex("9102026372 0001 5102046163 01013000");
+    return same([...ndef.writeHandover(false, 1, 2, message).bytes], [0x12, ...message]);
+});
+test("a message without a handover has no links", () => links({ records: [{ recordType: "text", data: "Hello" }] }).length === 0);
 
 test("kinds, statuses and flags have the numbers of the header", () => {
     const header = readFileSync(new URL("../../include/ndef.h", import.meta.url), "utf8");

@@ -35,11 +35,6 @@ await test("payloads", () => {
     same([written(calls.writeAlternative(1, ["0", bytesOf("FF"), ""])), written(calls.writeAlternative(4, ["0"])), written(calls.writeAlternative(1, [])), written(calls.writeAlternative(1, [LONG]))],
         [lower("01 01 30 02 01 FF 00"), BAD, BAD, BAD]);
 });
-await test("handovers of a message", () => {
-    const message = bytesOf(recordHex("D1", "cr", "0102"));
-    same([written(calls.writeHandover(false, 1, 2, message)), written(calls.writeHandover(true, 1, 4)), written(calls.writeHandover(true, 2, 0)), written(calls.writeHandover(false, 1, 0)),
-        written(calls.writeHandover(true, 1, 16))], [`12${hexOf(message)}`, "14", BAD, BAD, BAD]);
-});
 await test("handovers and posters in one call", () => {
     const alternatives = [{ power: 1, references: ["b"] }, { power: 3, references: ["w", "x", "y"] }];
     const carriers = (first, last) => recordHex(first, "ac", "01 01 62 00") + recordHex(last, "ac", "03 01 77 02 01 78 01 79");
@@ -77,13 +72,6 @@ await test("large records", () => {
     const payload = new Uint8Array(3000000).fill(7), { bytes } = calls.writeRecord({ tnf: 5, payload, flags: 3 });
     same([bytes.length, hexOf(bytes.subarray(0, 8)), bytes.subarray(6).every((byte) => byte === 7)], [3000006, "c500002dc6c00707", true]);
 });
-await test("messages written again", () => {
-    same([written(calls.normalize(bytesOf("B10101540056000178"))), written(calls.normalize(bytesOf("D0000007"), Ndef.WRITE_LONG)), written(calls.normalize(bytesOf("90"))),
-        written(calls.normalize(bytesOf("D00000"), 1))], [lower("D1 01 02 54 0078"), "c00000000000", BAD, BAD]);
-});
-
-// ---- bytes in parts
-
 await test("bytes in parts are checked as all of them are", () => all.filter(({ bytes }) => bytes.length < 300).forEach(({ bytes, options: { standard, opaque, ...limits } }) => {
     const options = { ...limits, flags: (standard ? Ndef.STANDARD : 0) | (opaque ? Ndef.OPAQUE : 0) }, whole = calls.check(bytes, options), half = bytes.length >> 1;
     const state = calls.begin(options), before = state.slice();
@@ -91,8 +79,8 @@ await test("bytes in parts are checked as all of them are", () => all.filter(({ 
     if (whole.reason === 24 && whole.place === bytes.length) wanted.status = Ndef.MORE;
     same(second, wanted);
     if (first.status === Ndef.MORE) same([first.place, first.reason], [half, 24]);
-    const [told, ...rest] = calls.feedAll(before, bytes, options);
-    same([told, rest.length === 0 || whole.status === Ndef.OK], [{ at: 0, ...wanted }, true]);
+    const [fed, ...rest] = calls.feedAll(before, bytes, options);
+    same([fed, rest.length === 0 || whole.status === Ndef.OK], [{ at: 0, ...wanted }, true]);
 }));
 await test("a state is what begin returned", () => {
     for (const wrong of [undefined, null, {}, new ArrayBuffer(488)]) throws(TypeError, () => calls.feed(wrong, new Uint8Array()));
@@ -117,15 +105,7 @@ await test("the parts of a poster", () => {
 
 // ---- values
 
-await test("values are written", () => {
-    same(hexOf(smartPoster({ uri: "tel:1" }, "i").toBytes()), recordHex("D9", "Sp", recordHex("D1", "U", "05 31"), "i"));
-    same(hexOf(handoverRequest({ collision: 258, carriers: [{ power: POWER.ACTIVATING, reference: "b", auxiliary: [bytesOf("FF")] }] }).toBytes()),
-        recordHex("D1", "Hr", "12" + recordHex("91", "cr", "0102") + recordHex("51", "ac", "02 01 62 01 01 FF")));
-    same(hexOf(handoverSelect({ minor: 4, error: { reason: 3, number: 7 } }).toBytes()), recordHex("D1", "Hs", "14" + recordHex("D1", "err", "0307")));
-    same(hexOf(handoverSelect({}).toBytes()), recordHex("D1", "Hs", "12"));
-    same(hexOf(handoverCarrier({ format: 2, type: "a/b", data: "x" }, "c").toBytes()), recordHex("D9", "Hc", "02 03 612F62 78", "c"));
-    same([POWER, ACTION, KIND === Ndef.KIND], [{ INACTIVE: 0, ACTIVE: 1, ACTIVATING: 2, UNKNOWN: 3 }, { DO: 0, SAVE: 1, OPEN: 2 }, true]);
-});
+await test("numbers have names", () => same([POWER, ACTION, KIND === Ndef.KIND], [{ INACTIVE: 0, ACTIVE: 1, ACTIVATING: 2, UNKNOWN: 3 }, { DO: 0, SAVE: 1, OPEN: 2 }, true]));
 const carriersOf = (carrier) => ({ collision: 0, carriers: [{ power: 1, reference: "a", ...carrier }] }), NOT_UTF8 = bytesOf("FF");
 const titlesOf = (language, text) => ({ uri: "a", titles: [{ language: "en", text: "a" }, { language, text }] });
 const UNWRITTEN = {
@@ -171,18 +151,6 @@ const UNWRITTEN = {
 await test("what can't be written is a RangeError that says why", () => Object.entries(UNWRITTEN).forEach(([what, causes]) =>
     Object.entries(causes).forEach(([why, call]) => same(throws(RangeError, call).message, `${what} can't be written: ${why}`))));
 
-const MAKERS = { "smart-poster": smartPoster, ":Hr": handoverRequest, ":Hs": handoverSelect, ":Hc": handoverCarrier };
-const made = { "smart-poster": 0, ":Hr": 0, ":Hs": 0, ":Hc": 0 };
-await test("a value that is read is written again", () => all.filter(({ isAccepted, options }) => isAccepted && !options.opaque).forEach(({ bytes, options }) => {
-    for (const record of decodePrefix(bytes, options).message.records) {
-        const make = MAKERS[record.recordType];
-        if (!make) continue;
-        const again = make(record.value, record.idBytes);
-        same([again.value, again.id], [record.value, record.id]);
-        made[record.recordType]++;
-    }
-}));
-await test("of each type some", () => Object.values(made).every((count) => count > 3));
 await test("records are put together as they are", () => {
     const text = new NDEFRecord({ recordType: "text", data: "a" });
     same(hexOf(encode({ records: [text, text, { recordType: "empty" }] })), recordHex("91", "T", "02656E61") + recordHex("11", "T", "02656E61") + "500000");
@@ -202,7 +170,7 @@ const UNREAD = [
 await test("what decode refuses isn't written, but where that is asked for", () => UNREAD.forEach(([records, record, place, name]) => {
     const error = throws(NdefError, () => encode({ records })), bytes = encode({ records }, { unchecked: true }), read = throws(NdefError, () => decode(bytes));
     same([error.record, error.place, error.name, read.name, read.reason, read.record], [record, place, name, name, error.reason, null]);
-    same(error.message, `record ${record} is refused at its byte ${place}: ${error.sentence}`);
+    same(error.message.startsWith(`record ${record}: refused at ${place}: ${error.name}: `), true);
     same(read.place - error.place, encode({ records: [...records.slice(0, record), EMPTY] }, { unchecked: true }).length - 3);
 }));
 await test("a message is written for who reads it with the same options", () => {

@@ -73,9 +73,9 @@ fn look_at(bytes: &[u8], profile: Profile) -> u64 {
     assert_eq!(checked.is_ok(), message.is_ok(), "a message is taken where the library takes it");
     let fields = Fields::of(bytes, &limits);
     assert_eq!(fields.refusal().is_some(), message.is_err(), "the fields are refused where the message is");
-    let told: usize = fields.map(|field| field.bytes.len()).sum();
+    let sum: usize = fields.map(|field| field.bytes.len()).sum();
     let Ok(message) = message else { return 0 };
-    assert_eq!(told, message.as_bytes().len(), "each byte stands in a field");
+    assert_eq!(sum, message.as_bytes().len(), "each byte stands in a field");
     for record in &message {
         size_of_value(&record);
         assert_eq!(record.payload_cow().len(), record.payload_len());
@@ -114,8 +114,8 @@ fn fuzz(seconds: u64) -> io::Result<()> {
 
 /// The memory that the process has, in kB.
 fn resident() -> io::Result<u64> {
-    let told = std::fs::read_to_string("/proc/self/statm")?;
-    Ok(told.split(' ').nth(1).and_then(|pages| pages.parse::<u64>().ok()).unwrap_or(0) * 4)
+    let statm = std::fs::read_to_string("/proc/self/statm")?;
+    Ok(statm.split(' ').nth(1).and_then(|pages| pages.parse::<u64>().ok()).unwrap_or(0) * 4)
 }
 
 /// Bytes of all parts of a message.
@@ -133,11 +133,11 @@ fn live(count: usize) -> io::Result<()> {
     for done in 0..count {
         let which = done % messages.len();
         let message = Message::parse(&messages[which]);
-        let told = message.map_or_else(|refusal| refusal.at as usize, |message| size_of_message(&message));
+        let outcome = message.map_or_else(|refusal| refusal.at as usize, |message| size_of_message(&message));
         if done < messages.len() {
-            first[which] = told;
+            first[which] = outcome;
         }
-        assert_eq!(told, first[which], "a message is answered in another way than the first time");
+        assert_eq!(outcome, first[which], "a message is answered in another way than the first time");
         if done == count / 10 {
             before = resident()?;
         }
