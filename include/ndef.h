@@ -170,20 +170,22 @@ uint32_t ndef_refusal_message(const uint8_t *bytes, ndef_size length, const ndef
 
 /* What a hint is about. */
 enum ndef_hint_number {
-    NDEF_HINT_TLV = 1,        /* an NDEF message TLV of a tag has bytes for a message, or none */
-    NDEF_HINT_ATTRIBUTES = 2, /* a message comes after the attribute block of a Type 3 Tag */
-    NDEF_HINT_FILE = 3,       /* a message comes after its length, as in a file of a Type 4 Tag */
-    NDEF_HINT_MESSAGE = 4,    /* a message begins after other bytes */
-    NDEF_HINT_TERMINATOR = 5, /* the terminator of a tag's TLV blocks is in place of a message */
-    NDEF_HINT_DIGITS = 6,     /* the bytes are hexadecimal digits */
-    NDEF_HINT_XXD = 7,        /* the bytes are a dump by xxd */
-    NDEF_HINT_HEXDUMP = 8,    /* the bytes are a dump by hexdump -C */
-    NDEF_HINT_WORDS = 9,      /* the bytes are a dump by od or hexdump, which may show numbers of two bytes */
-    NDEF_HINT_FLIPPER = 10,   /* the bytes are an NFC file of a Flipper */
-    NDEF_HINT_PROXMARK = 11,  /* the bytes are what the client of a Proxmark prints */
-    NDEF_HINT_BASE64 = 12,    /* the bytes may be base64 */
-    NDEF_HINT_CODE = 13,      /* the identifier code of a URI may be missing */
-    NDEF_HINT_STANDARD = 14   /* a reader of the standard profile accepts the bytes */
+    NDEF_HINT_TLV = 1,          /* an NDEF message TLV of a tag has bytes for a message, or none */
+    NDEF_HINT_ATTRIBUTES = 2,   /* a message comes after the attribute block of a Type 3 Tag */
+    NDEF_HINT_FILE = 3,         /* a message comes after its length, as in a file of a Type 4 Tag */
+    NDEF_HINT_MESSAGE = 4,      /* a message begins after other bytes */
+    NDEF_HINT_TERMINATOR = 5,   /* the terminator of a tag's TLV blocks is in place of a message */
+    NDEF_HINT_DIGITS = 6,       /* the bytes are hexadecimal digits */
+    NDEF_HINT_XXD = 7,          /* the bytes are a dump by xxd */
+    NDEF_HINT_HEXDUMP = 8,      /* the bytes are a dump by hexdump -C */
+    NDEF_HINT_WORDS = 9,        /* the bytes are a dump by od or hexdump, which may show numbers of two bytes */
+    NDEF_HINT_FLIPPER = 10,     /* the bytes are an NFC file of a Flipper */
+    NDEF_HINT_PROXMARK = 11,    /* the bytes are what the client of a Proxmark prints */
+    NDEF_HINT_BASE64 = 12,      /* the bytes may be base64 */
+    NDEF_HINT_CODE = 13,        /* the identifier code of a URI may be missing */
+    NDEF_HINT_STANDARD = 14,    /* a reader of the standard profile accepts the bytes */
+    NDEF_HINT_INTERRUPTED = 15, /* reserved areas of a tag lie inside its message */
+    NDEF_HINT_UNFINISHED = 16   /* a Type 3 Tag is being written */
 };
 
 /* What may help where bytes are refused, by numbers. */

@@ -249,13 +249,12 @@ inline std::string at_place(ndef_size place) {
 } // namespace detail
 
 inline std::string found_hint::text() const {
-    switch (kind) {
+    switch (static_cast<unsigned>(kind)) { // a header of release 1.0 has no names for 15 and 16
         case NDEF_HINT_TLV: return detail::in_tag(*this, ", in an NDEF TLV of a tag");
         case NDEF_HINT_ATTRIBUTES: return detail::in_tag(*this, ", after the attribute block of a Type 3 Tag");
         case NDEF_HINT_FILE: return detail::in_tag(*this, ", after its length, as in a file of a Type 4 Tag");
         case NDEF_HINT_MESSAGE: return detail::at_place(place);
-        case NDEF_HINT_TERMINATOR:
-            return "FE (hexadecimal) ends the TLV blocks of a tag; what comes after it is no message.";
+        case NDEF_HINT_TERMINATOR: return "FE (hexadecimal) ends the TLV blocks of a tag.";
         case NDEF_HINT_DIGITS: return "These are hexadecimal digits, not the bytes that they spell: decode them first.";
         case NDEF_HINT_XXD: return "This is a dump by xxd, not the bytes that it spells: decode its digits first.";
         case NDEF_HINT_HEXDUMP:
@@ -270,6 +269,9 @@ inline std::string found_hint::text() const {
         case NDEF_HINT_CODE: return "68 (hexadecimal) is the letter h: was the identifier code left out?";
         case NDEF_HINT_STANDARD:
             return "The standard profile reads this: set NDEF_STANDARD in the flags of the limits.";
+        case 15: // NDEF_HINT_INTERRUPTED
+            return "A reserved area of this tag interrupts its message: no part of these bytes is the message.";
+        case 16: return "This Type 3 Tag is being written: its message may be incomplete."; // NDEF_HINT_UNFINISHED
     }
     return {};
 }

@@ -24,6 +24,10 @@ const (
 	HintBase64     HintKind = C.NDEF_HINT_BASE64     // the bytes may be base64
 	HintCode       HintKind = C.NDEF_HINT_CODE       // the identifier code of a URI may be missing
 	HintStandard   HintKind = C.NDEF_HINT_STANDARD   // a reader of the standard profile accepts the bytes
+
+	// (the library of release 1.0.0 has no names for these)
+	HintInterrupted HintKind = 15 // reserved areas of a tag lie inside its message
+	HintUnfinished  HintKind = 16 // a Type 3 Tag is being written
 )
 
 // A FoundHint says to a program what may help where bytes are refused.
@@ -91,7 +95,7 @@ func (found *FoundHint) String() string {
 
 // hintTexts are the sentences that have no numbers.
 var hintTexts = map[HintKind]string{
-	HintTerminator: "FE (hexadecimal) ends the TLV blocks of a tag; what comes after it is no message.",
+	HintTerminator: "FE (hexadecimal) ends the TLV blocks of a tag.",
 	HintDigits:     "These are hexadecimal digits, not the bytes that they spell: decode them first, as `hex.DecodeString` does.",
 	HintXxd:        "This is a dump by xxd, not the bytes that it spells: decode its digits first.",
 	HintHexdump:    "This is a dump by hexdump, not the bytes that it spells: decode its digits first.",
@@ -101,4 +105,7 @@ var hintTexts = map[HintKind]string{
 	HintBase64:     "This may be base64, not the bytes that it spells: decode it first, as `base64.StdEncoding` does.",
 	HintCode:       "68 (hexadecimal) is the letter h: was the identifier code left out?",
 	HintStandard:   "The standard profile reads this: give `Options{Standard: true}`.",
+
+	HintInterrupted: "A reserved area of this tag interrupts its message: no part of these bytes is the message.",
+	HintUnfinished:  "This Type 3 Tag is being written: its message may be incomplete.",
 }

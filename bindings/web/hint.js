@@ -7,7 +7,7 @@ const AROUND = {
     [HINT.FILE]: "after its length, as in a file of a Type 4 Tag",
 };
 const TEXTS = {
-    [HINT.TERMINATOR]: "FE (hexadecimal) ends the TLV blocks of a tag; what comes after it is no message.",
+    [HINT.TERMINATOR]: "FE (hexadecimal) ends the TLV blocks of a tag.",
     [HINT.DIGITS]: "These are hexadecimal digits, not the bytes that they spell: decode them first.",
     [HINT.XXD]: "This is a dump by xxd, not the bytes that it spells: decode its digits first.",
     [HINT.HEXDUMP]: "This is a dump by hexdump, not the bytes that it spells: decode its digits first.",
@@ -15,6 +15,8 @@ const TEXTS = {
     [HINT.FLIPPER]: "This is a file of a Flipper, not the bytes: decode the digits of its pages first.",
     [HINT.PROXMARK]: "This is what a Proxmark prints, not the bytes: decode the digits of its blocks first.",
     [HINT.CODE]: "68 (hexadecimal) is the letter h: was the identifier code left out?",
+    [HINT.INTERRUPTED]: "A reserved area of this tag interrupts its message: no part of these bytes is the message.",
+    [HINT.UNFINISHED]: "This Type 3 Tag is being written: its message may be incomplete.",
 };
 
 // The words of a program: how it takes a part of its bytes, decodes base64, and reads by the standard profile.

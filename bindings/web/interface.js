@@ -6,7 +6,7 @@ export const STATUS = {
 // What a hint is about.
 export const HINT = {
     TLV: 1, ATTRIBUTES: 2, FILE: 3, MESSAGE: 4, TERMINATOR: 5, DIGITS: 6, XXD: 7, HEXDUMP: 8, WORDS: 9, FLIPPER: 10, PROXMARK: 11,
-    BASE64: 12, CODE: 13, STANDARD: 14,
+    BASE64: 12, CODE: 13, STANDARD: 14, INTERRUPTED: 15, UNFINISHED: 16,
 };
 // What the payload of a record is.
 export const KIND = {

@@ -223,11 +223,12 @@ class Oracle:
 
     # The words that the sentence for a found hint has in each language: what stands before its colon, and the numbers after it.
     AROUND = {1: 'in an NDEF TLV of a tag', 2: 'after the attribute block of a Type 3 Tag', 3: 'after its length, as in a file of a Type 4 Tag'}
-    TEXTS = {5: 'FE (hexadecimal) ends the TLV blocks of a tag; what comes after it is no message.',
+    TEXTS = {5: 'FE (hexadecimal) ends the TLV blocks of a tag.',
              6: 'These are hexadecimal digits, not the bytes that they spell', 7: 'This is a dump by xxd, not the bytes that it spells',
              8: 'This is a dump by hexdump, not the bytes that it spells', 9: 'This dump by od or hexdump may show numbers of two bytes, not bytes',
              10: 'This is a file of a Flipper, not the bytes', 11: 'This is what a Proxmark prints, not the bytes',
-             12: 'This may be base64, not the bytes that it spells', 13: '68 (hexadecimal) is the letter h', 14: 'The standard profile reads this'}
+             12: 'This may be base64, not the bytes that it spells', 13: '68 (hexadecimal) is the letter h', 14: 'The standard profile reads this',
+             15: 'A reserved area of this tag interrupts its message', 16: 'This Type 3 Tag is being written'}
 
     def text_of(self, found, given):
         if found.hint in self.AROUND and not found.length:

@@ -129,13 +129,18 @@ def refusals(table, messages, wrong, hints):
         table.add('made', op=op, bytes='', profile='standard')
     for data in ('', 'd10101557a', 'd1010154ff'):
         table.add('made', op='refusal', bytes=data, opaque=True)
+    version, since = table.oracle.l.version(), 0
     for line in hints.read_text().splitlines():
-        if line.strip() and line[0] != '#':
+        if line.startswith('# since '):
+            major, minor = map(int, line[len('# since '):].split('.'))
+            since = major << 16 | minor << 8
+        elif line.strip() and line[0] != '#':
             kind, at, length, data = line.split()
             answer = table.add('hints', op='refusal', bytes='' if data == '-' else data)
-            if answer and kind != '0':
+            if answer and kind != '0' and since <= version:
                 assert answer['found'] == [int(kind), int(at), int(length)], line
                 table.counted['case'] += 1
+            since = 0
     for data in wrong[:250]:
         table.add('made', op='refusal', bytes=data, **profile())
     for data in messages[:30]:

@@ -24,6 +24,8 @@ class HintKind(enum.IntEnum):
     BASE64: they may be base64.
     CODE: the identifier code of a URI may be missing.
     STANDARD: a reader of the standard profile accepts the octets.
+    INTERRUPTED: reserved areas of a tag lie inside its message.
+    UNFINISHED: a Type 3 Tag is being written.
     """
 
     TLV = interface.HINT_TLV
@@ -40,6 +42,8 @@ class HintKind(enum.IntEnum):
     BASE64 = interface.HINT_BASE64
     CODE = interface.HINT_CODE
     STANDARD = interface.HINT_STANDARD
+    INTERRUPTED = interface.HINT_INTERRUPTED
+    UNFINISHED = interface.HINT_UNFINISHED
 
 
 # What surrounds the octets that a tag has for a message.
@@ -53,7 +57,7 @@ _EMPTY = 'This tag is empty: it has no bytes for a message.'
 # The other sentences.
 _TEXTS: Dict[int, str] = {
     HintKind.MESSAGE: 'The bytes may begin with what surrounds a message on a tag; a message begins at byte {place}: read `octets[{place}:]`.',
-    HintKind.TERMINATOR: 'FE (hexadecimal) ends the TLV blocks of a tag; what comes after it is no message.',
+    HintKind.TERMINATOR: 'FE (hexadecimal) ends the TLV blocks of a tag.',
     HintKind.DIGITS: 'These are hexadecimal digits, not the bytes that they spell: decode them first, as `bytes.fromhex` does.',
     HintKind.XXD: 'This is a dump by xxd, not the bytes that it spells: decode its digits first.',
     HintKind.HEXDUMP: 'This is a dump by hexdump, not the bytes that it spells: decode its digits first.',
@@ -63,6 +67,8 @@ _TEXTS: Dict[int, str] = {
     HintKind.BASE64: 'This may be base64, not the bytes that it spells: decode it first, as `base64.b64decode` does.',
     HintKind.CODE: '68 (hexadecimal) is the letter h: was the identifier code left out?',
     HintKind.STANDARD: "The standard profile reads this: call `fields(octets, profile='standard')`.",
+    HintKind.INTERRUPTED: 'A reserved area of this tag interrupts its message: no part of these bytes is the message.',
+    HintKind.UNFINISHED: 'This Type 3 Tag is being written: its message may be incomplete.',
 }
 
 

@@ -47,6 +47,8 @@ kinds! {
     12 Base64 "The bytes may be base64.",
     13 Code "The identifier code of a URI may be missing.",
     14 Standard "A reader of the standard profile accepts the bytes.",
+    15 Interrupted "Reserved areas of a tag lie inside its message.",
+    16 Unfinished "A Type 3 Tag is being written.",
 }
 
 impl HintKind {
@@ -115,7 +117,7 @@ impl fmt::Display for FoundHint {
                 to.write_str("The bytes may begin with what surrounds a message on a tag; a message begins at byte ")?;
                 return write!(to, "{0}: read `&bytes[{0}..]`.", self.place);
             }
-            HintKind::Terminator => "FE (hexadecimal) ends the TLV blocks of a tag; what comes after it is no message.",
+            HintKind::Terminator => "FE (hexadecimal) ends the TLV blocks of a tag.",
             HintKind::Digits => "These are hexadecimal digits, not the bytes that they spell: decode them first.",
             HintKind::Xxd => "This is a dump by xxd, not the bytes that it spells: decode its digits first.",
             HintKind::Hexdump => "This is a dump by hexdump, not the bytes that it spells: decode its digits first.",
@@ -131,6 +133,10 @@ impl fmt::Display for FoundHint {
             HintKind::Standard => {
                 "The standard profile reads this: give `with_profile(Profile::Standard)` of the limits."
             }
+            HintKind::Interrupted => {
+                "A reserved area of this tag interrupts its message: no part of these bytes is the message."
+            }
+            HintKind::Unfinished => "This Type 3 Tag is being written: its message may be incomplete.",
         })
     }
 }

@@ -91,7 +91,7 @@ public final class FoundHint {
     private static String plain(HintKind kind) {
         switch (kind) {
             case TERMINATOR:
-                return "FE (hexadecimal) ends the TLV blocks of a tag; what comes after it is no message.";
+                return "FE (hexadecimal) ends the TLV blocks of a tag.";
             case DIGITS:
                 return "These are hexadecimal digits, not the bytes that they spell: decode them first.";
             case XXD:
@@ -108,6 +108,10 @@ public final class FoundHint {
                 return "This may be base64, not the bytes that it spells: decode it first, as `Base64.getDecoder()` does.";
             case CODE:
                 return "68 (hexadecimal) is the letter h: was the identifier code left out?";
+            case INTERRUPTED:
+                return "A reserved area of this tag interrupts its message: no part of these bytes is the message.";
+            case UNFINISHED:
+                return "This Type 3 Tag is being written: its message may be incomplete.";
             default:
                 return "The standard profile reads this: give `Profile.STANDARD`.";
         }

@@ -29,7 +29,11 @@ public enum HintKind {
     /** The identifier code of a URI may be missing. */
     CODE(13),
     /** A reader of the standard profile accepts the bytes. */
-    STANDARD(14);
+    STANDARD(14),
+    /** Reserved areas of a tag lie inside its message. */
+    INTERRUPTED(15),
+    /** A Type 3 Tag is being written. */
+    UNFINISHED(16);
 
     private static final HintKind[] ALL = values();
 
