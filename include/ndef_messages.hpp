@@ -246,6 +246,12 @@ inline std::string at_place(ndef_size place) {
     return "The bytes may begin with what surrounds a message on a tag; a message begins at byte " + at +
            ": read `ndef::bytes(input).from(" + at + ")`.";
 }
+
+/// The sentence for a message at an offset, in which reserved areas of a tag may lie.
+inline std::string interrupted(ndef_size place) {
+    return "A message may begin at byte " + std::to_string(place) +
+           ", in an NDEF TLV of a tag, but reserved areas may lie in it: read the tag with a program that skips them.";
+}
 } // namespace detail
 
 inline std::string found_hint::text() const {
@@ -269,9 +275,9 @@ inline std::string found_hint::text() const {
         case NDEF_HINT_CODE: return "68 (hexadecimal) is the letter h: was the identifier code left out?";
         case NDEF_HINT_STANDARD:
             return "The standard profile reads this: set NDEF_STANDARD in the flags of the limits.";
-        case 15: // NDEF_HINT_INTERRUPTED
-            return "A reserved area of this tag interrupts its message: no part of these bytes is the message.";
-        case 16: return "This Type 3 Tag is being written: its message may be incomplete."; // NDEF_HINT_UNFINISHED
+        case 15: return detail::interrupted(place); // NDEF_HINT_INTERRUPTED
+        case 16: // NDEF_HINT_UNFINISHED
+            return "This Type 3 Tag is being written: its attribute block says that the message is not whole yet.";
     }
     return {};
 }

@@ -26,7 +26,7 @@ const (
 	HintStandard   HintKind = C.NDEF_HINT_STANDARD   // a reader of the standard profile accepts the bytes
 
 	// (the library of release 1.0.0 has no names for these)
-	HintInterrupted HintKind = 15 // reserved areas of a tag lie inside its message
+	HintInterrupted HintKind = 15 // reserved areas of a tag may lie in its message
 	HintUnfinished  HintKind = 16 // a Type 3 Tag is being written
 )
 
@@ -88,6 +88,9 @@ func (found *FoundHint) String() string {
 	case HintMessage:
 		const text = "The bytes may begin with what surrounds a message on a tag; a message begins at byte %d: read `bytes[%d:]`."
 		return fmt.Sprintf(text, found.Place, found.Place)
+	case HintInterrupted:
+		const text = "A message may begin at byte %d, in an NDEF TLV of a tag, but reserved areas may lie in it: read the tag with a program that skips them."
+		return fmt.Sprintf(text, found.Place)
 	default:
 		return hintTexts[found.Kind]
 	}
@@ -106,6 +109,5 @@ var hintTexts = map[HintKind]string{
 	HintCode:       "68 (hexadecimal) is the letter h: was the identifier code left out?",
 	HintStandard:   "The standard profile reads this: give `Options{Standard: true}`.",
 
-	HintInterrupted: "A reserved area of this tag interrupts its message: no part of these bytes is the message.",
-	HintUnfinished:  "This Type 3 Tag is being written: its message may be incomplete.",
+	HintUnfinished: "This Type 3 Tag is being written: its attribute block says that the message is not whole yet.",
 }

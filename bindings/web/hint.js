@@ -15,8 +15,7 @@ const TEXTS = {
     [HINT.FLIPPER]: "This is a file of a Flipper, not the bytes: decode the digits of its pages first.",
     [HINT.PROXMARK]: "This is what a Proxmark prints, not the bytes: decode the digits of its blocks first.",
     [HINT.CODE]: "68 (hexadecimal) is the letter h: was the identifier code left out?",
-    [HINT.INTERRUPTED]: "A reserved area of this tag interrupts its message: no part of these bytes is the message.",
-    [HINT.UNFINISHED]: "This Type 3 Tag is being written: its message may be incomplete.",
+    [HINT.UNFINISHED]: "This Type 3 Tag is being written: its attribute block says that the message is not whole yet.",
 };
 
 // The words of a program: how it takes a part of its bytes, decodes base64, and reads by the standard profile.
@@ -41,6 +40,8 @@ export function hintText(found, words) {
     }
     if (hint === HINT.MESSAGE)
         return `The bytes may begin with what surrounds a message on a tag; a message begins at byte ${at}${words.part(...places)}.`;
+    if (hint === HINT.INTERRUPTED)
+        return `A message may begin at byte ${at}, in an NDEF TLV of a tag, but reserved areas may lie in it: read the tag with a program that skips them.`;
     if (hint === HINT.BASE64) return `This may be base64, not the bytes that it spells: decode it first${words.base64}.`;
     return hint === HINT.STANDARD ? `The standard profile reads this: ${words.standard}.` : TEXTS[hint] ?? "Only a newer library knows this hint.";
 }

@@ -1,10 +1,10 @@
 """What each hint states of refused bytes, and whether it is true of them: by docs/EXPLAIN.md, and by the layouts of the NFC Forum for the memory of tags
-(Type 1 to Type 5 Tag)."""
+(Type 1 to Type 5 Tag). Of the tags that tags.py lays out it is known which bytes are the message: the command of a hint has to give these."""
 import re
 
 import reading
 
-MESSAGE, PASSED = 3, (0, 1, 2, 0xfd)
+MESSAGE, PASSED, CONTROLS = 3, (0, 1, 2, 0xfd), (1, 2)
 
 
 def number_at(given, at, size):
@@ -13,17 +13,20 @@ def number_at(given, at, size):
     return int.from_bytes(octets + bytes(size - len(octets)), 'big')
 
 
-def message_block(given, at):
-    """The first NDEF Message TLV of the blocks from there on: where its value begins, and its length; or None."""
+def blocks(given, at):
+    """The TLV blocks from there on, up to an NDEF Message TLV: the tag of each, where its value begins, and its length."""
     while at < len(given):
         tag, is_long = given[at], given[at + 1:at + 2] == b'\xff'
         begins, length = (at + 4, number_at(given, at + 2, 2)) if is_long else (at + 2, number_at(given, at + 1, 1))
-        if tag == MESSAGE:
-            return begins, length
+        yield tag, begins, length
         if tag not in PASSED:
-            return None
+            return
         at = at + 1 if tag == 0 else begins + length
-    return None
+
+
+def message_block(given, at):
+    """The first NDEF Message TLV of the blocks from there on: where its value begins, and its length; or None."""
+    return next(((begins, length) for tag, begins, length in blocks(given, at) if tag == MESSAGE), None)
 
 
 def blocks_begin(given):
@@ -34,7 +37,7 @@ def blocks_begin(given):
 
 def attributes(given):
     """The length in the attribute information block of a Type 3 Tag, whose last two octets are the sum of the others; or None."""
-    is_block = len(given) >= 16 and sum(given[:14]) == number_at(given, 14, 2)
+    is_block = len(given) >= 16 and given[0] in (0x10, 0x11) and sum(given[:14]) == number_at(given, 14, 2)
     return number_at(given, 11, 3) if is_block else None
 
 
@@ -49,18 +52,31 @@ def in_block(scene, limits, length, at, *command):
     return scene.at == 0 and is_block and is_cut(at, length, *command) and given[at] & 0x80
 
 
+def interrupted(scene, limits, length, at):
+    """A control TLV comes before the message, or the memory may be that of a dynamic Type 1 Tag, whose container says that it has more than 120 bytes."""
+    given, starts = scene.given, [begins for begins in blocks_begin(scene.given) if message_block(scene.given, begins) == (at, length)]
+    has_control = any(tag in CONTROLS and count == 3 for begins in starts for tag, _, count in blocks(given, begins))
+    is_dynamic = any(12 <= begins < 16 and given[begins - 2] >= 0x0f for begins in starts)
+    return scene.at == 0 and length > 0 and given[at] & 0x80 and (has_control or is_dynamic)
+
+
 def after_attributes(scene, limits, length, at, *command):
-    return scene.at == 0 and at == 16 and attributes(scene.given) == length and is_cut(at, length, *command)
+    return scene.at == 0 and at == 16 and attributes(scene.given) == length and scene.given[9] == 0 and is_cut(at, length, *command)
+
+
+def unfinished(scene, limits):
+    return scene.at == 0 and attributes(scene.given) is not None and scene.given[9] != 0
 
 
 def in_file(scene, limits, length, at, *command):
     given = scene.given
-    return scene.at == 0 and at == 2 and 0 < length == number_at(given, 0, 2) <= len(given) - 2 and given[2] & 0x80 and is_cut(at, length, *command)
+    return scene.at == 0 and at in (2, 4) and 0 < length == number_at(given, 0, at) <= len(given) - at and given[at] & 0x80 and is_cut(at, length, *command)
 
 
 def empty_tag(scene, limits):
-    blocks = [message_block(scene.given, begins) for begins in blocks_begin(scene.given)]
-    return scene.at == 0 and (any(block and block[1] == 0 for block in blocks) or attributes(scene.given) == 0)
+    found = [message_block(scene.given, begins) for begins in blocks_begin(scene.given)]
+    has_length = any(block and block[1] == 0 and block[0] <= len(scene.given) for block in found)
+    return scene.at == 0 and (has_length or attributes(scene.given) == 0)
 
 
 def message_at(scene, limits, at):
@@ -91,9 +107,12 @@ HINTS = [(name, re.compile(words), is_true) for name, words, is_true in (
     ('block', rf'A message of length (\d+) may begin at byte (\d+), in an NDEF TLV of a tag: {COMMAND}', in_block),
     ('attributes', rf'A message of length (\d+) may begin at byte (\d+), after the attribute block of a Type 3 Tag: {COMMAND}', after_attributes),
     ('file', rf'A message of length (\d+) may begin at byte (\d+), after its length, as in a file of a Type 4 Tag: {COMMAND}', in_file),
+    ('interrupted', r'A message of length (\d+) may begin at byte (\d+), in an NDEF TLV of a tag, but reserved areas may lie in it: '
+                    r'read the tag with a program that skips them\.', interrupted),
+    ('unfinished', r'This Type 3 Tag is being written: its attribute block says that the message is not whole yet\.', unfinished),
     ('empty', r'This tag is empty: it has no bytes for a message\.', empty_tag),
     ('near', r'The bytes may begin with what surrounds a message on a tag; a message begins at byte (\d+)\.', message_at),
-    ('terminator', r'FE \(hexadecimal\) ends the TLV blocks of a tag; what comes after it is no message\.', terminator),
+    ('terminator', r'FE \(hexadecimal\) ends the TLV blocks of a tag\.', terminator),
     ('code', r'68 \(hexadecimal\) is the letter h: was the identifier code left out\?', code_left_out),
     ('standard', r'The standard profile reads this \(`--profile standard`, in C NDEF_STANDARD\)\.', standard_profile),
     ('digits', r'These are hexadecimal digits, not the bytes that they spell; `--hex` reads them\.', is_text(rb'[0-9A-Fa-fXx\s:,-]+\Z')),
@@ -109,6 +128,38 @@ HINTS = [(name, re.compile(words), is_true) for name, words, is_true in (
 def forms():
     """The name of each hint."""
     return {f'hint {name}' for name, _, _ in HINTS}
+
+
+def named(hint):
+    """The name of a hint, and its numbers."""
+    found = ((name, pattern.fullmatch(hint)) for name, pattern, _ in HINTS)
+    return next(((name, [int(number) for number in words.groups()]) for name, words in found if words), ('', []))
+
+
+def is_whole_file(given):
+    """Whether the bytes are as long as a file that begins with its length: a hint takes them for one, whatever laid them out."""
+    return any(number_at(given, 0, at) == len(given) - at for at in (2, 4))
+
+
+def is_longer_file(given):
+    """Whether the bytes are more than such a file has: a hint may take them for one where areas hide the block of the message."""
+    return any(0 < number_at(given, 0, at) <= len(given) - at and given[at] & 0x80 for at in (2, 4))
+
+
+def fault_on_tag(hint, tag):
+    """What is wrong with a hint on a tag of tags.py: it isn't the one that is wanted, its command gives other bytes than the message, or it says that a
+    tag is empty which isn't. None where nothing is. Of bytes that end within the message the command gives those that there are."""
+    name, numbers = named(hint) if hint else (None, [])
+    if tag.wanted and name != tag.wanted:
+        return f'{name} instead of {tag.wanted}'
+    if name == 'file' and not tag.wanted and is_longer_file(tag.given):
+        return None
+    if name in ('block', 'attributes', 'file'):
+        length, at, after, count = numbers
+        cut = tag.given[after - 1:after - 1 + count]
+        if (at, count, cut) != (after - 1, length, tag.message[:len(cut)]) or length != len(tag.message):
+            return 'the command gives other bytes than the message'
+    return 'the tag is not empty' if name == 'empty' and tag.message else None
 
 
 def judged(hint, scene, limits):

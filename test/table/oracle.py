@@ -228,7 +228,7 @@ class Oracle:
              8: 'This is a dump by hexdump, not the bytes that it spells', 9: 'This dump by od or hexdump may show numbers of two bytes, not bytes',
              10: 'This is a file of a Flipper, not the bytes', 11: 'This is what a Proxmark prints, not the bytes',
              12: 'This may be base64, not the bytes that it spells', 13: '68 (hexadecimal) is the letter h', 14: 'The standard profile reads this',
-             15: 'A reserved area of this tag interrupts its message', 16: 'This Type 3 Tag is being written'}
+             16: 'This Type 3 Tag is being written'}
 
     def text_of(self, found, given):
         if found.hint in self.AROUND and not found.length:
@@ -238,6 +238,8 @@ class Oracle:
                     [min(found.at, given), min(found.at + found.length, given)]]
         if found.hint == 4:
             return [f'The bytes may begin with what surrounds a message on a tag; a message begins at byte {found.at}', [found.at]]
+        if found.hint == 15:
+            return [f'A message may begin at byte {found.at}, in an NDEF TLV of a tag, but reserved areas may lie in it', []]
         return [self.TEXTS[found.hint], []]
 
     def warnings(self, row):

@@ -304,7 +304,7 @@ await test("what may help, for a program", () => {
     const [major, minor] = calls.version(), isOld = major === 1 && minor === 0;
     const lines = readFileSync(new URL("../faces/hints.txt", import.meta.url), "utf8").trim().split("\n");
     const rows = lines.filter((line, at) => !line.startsWith("#") && !(isOld && lines[at - 1].startsWith("# since ")));
-    const kinds = new Set(), PLAIN = [...(isOld ? [] : [HINT.TERMINATOR]), HINT.CODE, HINT.INTERRUPTED, HINT.UNFINISHED];
+    const kinds = new Set(), PLAIN = [...(isOld ? [] : [HINT.TERMINATOR]), HINT.CODE, HINT.UNFINISHED];
     const isPlain = ({ kind, length }) => PLAIN.includes(kind) || (kind <= HINT.FILE && length === 0);
     for (const row of rows) {
         const [kind, place, length, hex] = row.split(" "), bytes = bytesOf(hex === "-" ? "" : hex), found = findHint(bytes), sentence = hint(bytes);

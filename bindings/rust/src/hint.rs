@@ -47,7 +47,7 @@ kinds! {
     12 Base64 "The bytes may be base64.",
     13 Code "The identifier code of a URI may be missing.",
     14 Standard "A reader of the standard profile accepts the bytes.",
-    15 Interrupted "Reserved areas of a tag lie inside its message.",
+    15 Interrupted "Reserved areas of a tag may lie in its message.",
     16 Unfinished "A Type 3 Tag is being written.",
 }
 
@@ -134,9 +134,12 @@ impl fmt::Display for FoundHint {
                 "The standard profile reads this: give `with_profile(Profile::Standard)` of the limits."
             }
             HintKind::Interrupted => {
-                "A reserved area of this tag interrupts its message: no part of these bytes is the message."
+                write!(to, "A message may begin at byte {}, in an NDEF TLV of a tag, but ", self.place)?;
+                return to.write_str("reserved areas may lie in it: read the tag with a program that skips them.");
             }
-            HintKind::Unfinished => "This Type 3 Tag is being written: its message may be incomplete.",
+            HintKind::Unfinished => {
+                "This Type 3 Tag is being written: its attribute block says that the message is not whole yet."
+            }
         })
     }
 }

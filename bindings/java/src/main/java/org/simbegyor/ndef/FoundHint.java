@@ -69,6 +69,9 @@ public final class FoundHint {
             case MESSAGE:
                 return "The bytes may begin with what surrounds a message on a tag; a message begins at byte " + place
                         + ": read `" + copy(place, given) + "`.";
+            case INTERRUPTED:
+                return "A message may begin at byte " + place + ", in an NDEF TLV of a tag, but reserved areas may lie in it: "
+                        + "read the tag with a program that skips them.";
             default:
                 return plain(kind);
         }
@@ -108,10 +111,8 @@ public final class FoundHint {
                 return "This may be base64, not the bytes that it spells: decode it first, as `Base64.getDecoder()` does.";
             case CODE:
                 return "68 (hexadecimal) is the letter h: was the identifier code left out?";
-            case INTERRUPTED:
-                return "A reserved area of this tag interrupts its message: no part of these bytes is the message.";
             case UNFINISHED:
-                return "This Type 3 Tag is being written: its message may be incomplete.";
+                return "This Type 3 Tag is being written: its attribute block says that the message is not whole yet.";
             default:
                 return "The standard profile reads this: give `Profile.STANDARD`.";
         }

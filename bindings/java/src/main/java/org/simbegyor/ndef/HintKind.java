@@ -30,7 +30,7 @@ public enum HintKind {
     CODE(13),
     /** A reader of the standard profile accepts the bytes. */
     STANDARD(14),
-    /** Reserved areas of a tag lie inside its message. */
+    /** Reserved areas of a tag may lie in its message. */
     INTERRUPTED(15),
     /** A Type 3 Tag is being written. */
     UNFINISHED(16);
