@@ -184,15 +184,15 @@ enum ndef_hint_number {
     NDEF_HINT_BASE64 = 12,      /* the bytes may be base64 */
     NDEF_HINT_CODE = 13,        /* the identifier code of a URI may be missing */
     NDEF_HINT_STANDARD = 14,    /* a reader of the standard profile accepts the bytes */
-    NDEF_HINT_INTERRUPTED = 15, /* reserved areas of a tag may lie in its message */
-    NDEF_HINT_UNFINISHED = 16   /* a Type 3 Tag is being written */
+    NDEF_HINT_INTERRUPTED = 15, /* reserved areas of a tag may lie inside the message of an NDEF message TLV */
+    NDEF_HINT_UNFINISHED = 16   /* a Type 3 Tag is being written: its message is not whole yet */
 };
 
 /* What may help where bytes are refused, by numbers. */
 typedef struct ndef_found {
     uint32_t hint;    /* the hint, one of ndef_hint_number */
     ndef_size at;     /* the offset at which a message may begin; 0 where the hint names none */
-    ndef_size length; /* the number of bytes that a tag has for it; 0 where the hint names none */
+    ndef_size length; /* the number of bytes there that a tag has for it; 0 where the hint names none */
 } ndef_found;
 
 /* Writes a sentence that may help where the bytes are refused, as ndef_refusal_message does: they are the memory of a

@@ -26,8 +26,8 @@ const (
 	HintStandard   HintKind = C.NDEF_HINT_STANDARD   // a reader of the standard profile accepts the bytes
 
 	// (the library of release 1.0.0 has no names for these)
-	HintInterrupted HintKind = 15 // reserved areas of a tag may lie in its message
-	HintUnfinished  HintKind = 16 // a Type 3 Tag is being written
+	HintInterrupted HintKind = 15 // reserved areas of a tag may lie inside the message of an NDEF message TLV
+	HintUnfinished  HintKind = 16 // a Type 3 Tag is being written: its message is not whole yet
 )
 
 // A FoundHint says to a program what may help where bytes are refused.

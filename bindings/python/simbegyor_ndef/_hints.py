@@ -24,8 +24,8 @@ class HintKind(enum.IntEnum):
     BASE64: they may be base64.
     CODE: the identifier code of a URI may be missing.
     STANDARD: a reader of the standard profile accepts the octets.
-    INTERRUPTED: reserved areas of a tag may lie in its message.
-    UNFINISHED: a Type 3 Tag is being written.
+    INTERRUPTED: reserved areas of a tag may lie inside the message of an NDEF message TLV.
+    UNFINISHED: a Type 3 Tag is being written: its message is not whole yet.
     """
 
     TLV = interface.HINT_TLV

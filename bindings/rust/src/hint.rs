@@ -47,8 +47,8 @@ kinds! {
     12 Base64 "The bytes may be base64.",
     13 Code "The identifier code of a URI may be missing.",
     14 Standard "A reader of the standard profile accepts the bytes.",
-    15 Interrupted "Reserved areas of a tag may lie in its message.",
-    16 Unfinished "A Type 3 Tag is being written.",
+    15 Interrupted "Reserved areas of a tag may lie inside the message of an NDEF message TLV.",
+    16 Unfinished "A Type 3 Tag is being written: its message is not whole yet.",
 }
 
 impl HintKind {

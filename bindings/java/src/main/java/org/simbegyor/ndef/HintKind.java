@@ -30,9 +30,9 @@ public enum HintKind {
     CODE(13),
     /** A reader of the standard profile accepts the bytes. */
     STANDARD(14),
-    /** Reserved areas of a tag may lie in its message. */
+    /** Reserved areas of a tag may lie inside the message of an NDEF message TLV. */
     INTERRUPTED(15),
-    /** A Type 3 Tag is being written. */
+    /** A Type 3 Tag is being written: its message is not whole yet. */
     UNFINISHED(16);
 
     private static final HintKind[] ALL = values();
