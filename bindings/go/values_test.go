@@ -230,3 +230,12 @@ func TestGrowthOfSentences(t *testing.T) {
 		return nil
 	})
 }
+
+// Each kind of hint has a sentence, whatever the library knows of it.
+func TestTextsOfHints(t *testing.T) {
+	for kind := HintTLV; kind <= HintUnfinished; kind++ {
+		if text := (&FoundHint{Kind: kind}).String(); !strings.HasSuffix(text, ".") && !strings.HasSuffix(text, "?") {
+			t.Errorf("the kind %d has the sentence %q", kind, text)
+		}
+	}
+}

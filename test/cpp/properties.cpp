@@ -365,6 +365,11 @@ static void asked_one_by_one() {
     LOOK(ndef::links(*ndef::message::check(hello), ndef::bytes()).size() == 0);
     const std::string carrier("\x01\x01" "0\0", 4), select("\x12", 1);
     LOOK(ndef::alternative::read(carrier)->references().size() == 1 && ndef::links(*ndef::message::check(hello), select).size() == 0);
+    ndef::found_hint found;
+    for (unsigned kind = 1; kind <= 15; kind++) {
+        found.kind = static_cast<ndef::hint_kind>(kind);
+        LOOK(!found.text().empty());
+    }
 }
 
 int main() {
