@@ -58,6 +58,8 @@ impl HintKind {
                 Wrapping::Block => Self::Tlv,
                 Wrapping::Attributes => Self::Attributes,
                 Wrapping::File => Self::File,
+                Wrapping::Interrupted => Self::Interrupted,
+                Wrapping::Unfinished => Self::Unfinished,
             },
             Hint::MessageAt(_) => Self::Message,
             Hint::AfterBlocks => Self::Terminator,
