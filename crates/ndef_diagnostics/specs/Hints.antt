@@ -93,6 +93,8 @@ abbrev pub wrapping_text : Wrapping → List ℕ
 wrapping_text wrappings.Block = codes ", in an NDEF TLV of a tag"
 wrapping_text wrappings.Attributes = codes ", after the attribute block of a Type 3 Tag"
 wrapping_text wrappings.File = codes ", after its length, as in a file of a Type 4 Tag"
+wrapping_text wrappings.Interrupted = codes ", in an NDEF TLV of a tag"
+wrapping_text wrappings.Unfinished = codes ", after the attribute block of a Type 3 Tag"
 
 -- the length and the place of a message on a tag, and the beginning of a command
 abbrev pub placed_text : (before : List ℕ) → Found → List ℕ
@@ -105,12 +107,32 @@ abbrev pub cut_text : (before : List ℕ) → (place length : ℕ) → List ℕ
 cut_text before place length =
     before ++ decimal (place + 1) ++ codes " | head -c " ++ decimal length ++ codes "`."
 
--- the sentence for what a tag has for a message
+-- the sentence for a message on a tag, with the command that gives its bytes
+abbrev pub command_text : Found → List ℕ
+command_text found = cut_text (placed_text (codes "A message of length ") found) found.at found.length
+
+-- the sentence for a message in which reserved areas of a tag may lie
+abbrev pub interrupted_text : Found → List ℕ
+interrupted_text found =
+    codes "A message of length " ++ decimal found.length ++ codes " may begin at byte " ++ decimal found.at
+    ++ codes
+    ", in an NDEF TLV of a tag, but reserved areas may lie in it: read the tag with a program that skips them."
+
+-- the sentence for what a tag that states a length has for a message
+abbrev pub stated_text : Found → List ℕ
+stated_text found =
+    if found.length == 0 then codes "This tag is empty: it has no bytes for a message." else command_text found
+
+-- the sentence for what a tag has for a message: no command where reserved areas may cut it, or it is not whole
+abbrev pub text_in : Wrapping → Found → List ℕ
+text_in wrappings.Interrupted found = interrupted_text found
+text_in wrappings.Unfinished found =
+    codes "This Type 3 Tag is being written: its attribute block says that the message is not whole yet."
+text_in wrapping found = stated_text found
+
+-- the same, by what surrounds the message
 abbrev pub tag_text : Found → List ℕ
-tag_text found =
-    if found.length == 0
-    then codes "This tag is empty: it has no bytes for a message."
-    else cut_text (placed_text (codes "A message of length ") found) found.at found.length
+tag_text found = text_in found.wrapping found
 
 -- the sentence for a text that spells bytes
 abbrev pub dump_text : DumpText → List ℕ
@@ -136,7 +158,7 @@ abbrev pub hint_text : Hint → List ℕ
 hint_text (hints.InTag found) = tag_text found
 hint_text (hints.Text text) = dump_text text
 hint_text (hints.MessageAt place) = near_text place
-hint_text hints.AfterBlocks = codes "FE (hexadecimal) ends the TLV blocks of a tag; what comes after it is no message."
+hint_text hints.AfterBlocks = codes "FE (hexadecimal) ends the TLV blocks of a tag."
 hint_text hints.CodeLeftOut = codes "68 (hexadecimal) is the letter h: was the identifier code left out?"
 hint_text hints.StandardProfile = codes "The standard profile reads this (`--profile standard`, in C NDEF_STANDARD)."
 
@@ -146,7 +168,17 @@ hint_place (hints.InTag found) = found.at
 hint_place (hints.MessageAt place) = place
 hint_place hint = 0
 
+-- the number of bytes at its place that a tag has for a message; 0 where reserved areas may cut it, or it is not whole
+abbrev pub length_in : Wrapping → (length : ℕ) → ℕ
+length_in wrappings.Interrupted length = 0
+length_in wrappings.Unfinished length = 0
+length_in wrapping length = length
+
+-- the same, of what a tag has for a message
+abbrev pub given_length : Found → ℕ
+given_length found = length_in found.wrapping found.length
+
 -- the number of bytes that a tag has for it; 0 where the hint names none
 abbrev pub hint_length : Hint → ℕ
-hint_length (hints.InTag found) = found.length
+hint_length (hints.InTag found) = given_length found
 hint_length hint = 0

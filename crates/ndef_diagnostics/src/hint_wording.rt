@@ -1,6 +1,7 @@
 //! The sentences of hints, and what they name by numbers.
 ghost use Rattle.std.specs.Prelude.{◌≡◌, ◌≤◌, ◌+◌, ◌++◌, decimal, length};
-ghost use Rattle.ndef_diagnostics.specs.Hints.{cut_text, dump_text, hint_length, hint_place, hint_text, near_text, placed_text};
+ghost use Rattle.ndef_diagnostics.specs.Hints.{command_text, cut_text, dump_text, given_length, hint_length};
+ghost use Rattle.ndef_diagnostics.specs.Hints.{hint_place, hint_text, interrupted_text, near_text, placed_text, stated_text};
 ghost use Rattle.ndef_diagnostics.specs.Hints.{tag_text, wrapping_text};
 
 use crate::dump_text::DumpText;
@@ -16,9 +17,7 @@ impl Hint {
             Hint::InTag(found) => tag_sentence(found),
             Hint::Text(text) => dump_sentence(text),
             Hint::MessageAt(place) => near_sentence(place),
-            Hint::AfterBlocks => Sentence::of(
-                b"FE (hexadecimal) ends the TLV blocks of a tag; what comes after it is no message.",
-            ),
+            Hint::AfterBlocks => Sentence::of(b"FE (hexadecimal) ends the TLV blocks of a tag."),
             Hint::CodeLeftOut => {
                 Sentence::of(b"68 (hexadecimal) is the letter h: was the identifier code left out?")
             }
@@ -39,14 +38,25 @@ impl Hint {
         }
     }
 
-    /// The number of bytes that a tag has for that message; 0 where the hint names none.
+    /// The number of bytes at that place that a tag has for the message; 0 where the hint names none, as where reserved
+    /// areas may lie among them, or the tag is being written.
     pub fn length(self) -> u64
         ensures { result ≡ hint_length self }
     {
         match self {
-            Hint::InTag(found) => u64::from(found.length),
+            Hint::InTag(found) => given_length(found),
             _ => 0,
         }
+    }
+}
+
+/// The number of bytes at its place that a tag has for a message; 0 if they are not the message.
+fn given_length(found: Found) -> u64
+    ensures { result ≡ given_length found }
+{
+    match found.wrapping {
+        Wrapping::Block | Wrapping::Attributes | Wrapping::File => u64::from(found.length),
+        Wrapping::Interrupted | Wrapping::Unfinished => 0,
     }
 }
 
@@ -79,8 +89,10 @@ fn wrapping_text(wrapping: Wrapping) -> &'static [u8]
     ensures short { length result.now ≤ 48 }
 {
     match wrapping {
-        Wrapping::Block => b", in an NDEF TLV of a tag",
-        Wrapping::Attributes => b", after the attribute block of a Type 3 Tag",
+        Wrapping::Block | Wrapping::Interrupted => b", in an NDEF TLV of a tag",
+        Wrapping::Attributes | Wrapping::Unfinished => {
+            b", after the attribute block of a Type 3 Tag"
+        }
         Wrapping::File => b", after its length, as in a file of a Type 4 Tag",
     }
 }
@@ -105,17 +117,56 @@ fn push_cut(sentence: &mut Sentence, found: Found)
     push_both(sentence, u64::from(found.length), b"`.");
 }
 
-/// The sentence for what a tag has for a message.
-fn tag_sentence(found: Found) -> Sentence
-    ensures { result ≡ tag_text found }
+/// The sentence for a message on a tag, with the command that gives its bytes.
+fn command_sentence(found: Found) -> Sentence
+    ensures { result ≡ command_text found }
 {
-    if found.length == 0 {
-        return Sentence::of(b"This tag is empty: it has no bytes for a message.");
-    }
     let mut sentence = Sentence::of(b"A message of length ");
     push_placed(&mut sentence, found);
     push_cut(&mut sentence, found);
     sentence
+}
+
+/// The sentence for a message in which reserved areas of a tag may lie.
+fn interrupted_sentence(found: Found) -> Sentence
+    ensures { result ≡ interrupted_text found }
+{
+    let mut sentence = Sentence::of(b"A message of length ");
+    push_both(
+        &mut sentence,
+        u64::from(found.length),
+        b" may begin at byte ",
+    );
+    push_both(
+        &mut sentence,
+        u64::from(found.at),
+        b", in an NDEF TLV of a tag, but reserved areas may lie in it: read the tag with a program that skips them.",
+    );
+    sentence
+}
+
+/// The sentence for what a tag that states a length has for a message.
+fn stated_sentence(found: Found) -> Sentence
+    ensures { result ≡ stated_text found }
+{
+    if found.length == 0 {
+        Sentence::of(b"This tag is empty: it has no bytes for a message.")
+    } else {
+        command_sentence(found)
+    }
+}
+
+/// The sentence for what a tag has for a message.
+fn tag_sentence(found: Found) -> Sentence
+    ensures { result ≡ tag_text found }
+{
+    match found.wrapping {
+        Wrapping::Block | Wrapping::Attributes | Wrapping::File => stated_sentence(found),
+        Wrapping::Interrupted => interrupted_sentence(found),
+        Wrapping::Unfinished => Sentence::of(
+            b"This Type 3 Tag is being written: its attribute block says that the message is not whole yet.",
+        ),
+    }
 }
 
 /// The sentence for a text that spells bytes.

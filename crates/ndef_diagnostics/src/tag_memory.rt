@@ -1,8 +1,13 @@
 //! The place of a message in the memory of a tag.
-ghost use Rattle.std.specs.Prelude.{◌≡◌, ◌<◌, ◌≤◌, ◌+◌, ◌^◌, IfSome, length, sum};
-ghost use Rattle.ndef_diagnostics.specs.TagMemory.{Finds, IsFirstBlock, IsFirstContainer, Reaches, Stops, after_attributes, blocks_at, found_by};
-ghost use Rattle.ndef_diagnostics.specs.TagMemory.{has_attributes, in_block, in_file, in_other, is_begun, is_container};
-ghost use Rattle.ndef_diagnostics.specs.TagMemory.{is_passed, next_block, two_octets, value_at, value_length};
+ghost use Rattle.std.specs.Prelude.{◌≡◌, ◌<◌, ◌≤◌, ◌+◌, ◌^◌, ◌↔◌, IfSome, IsTrue, length, sum};
+ghost use Rattle.ndef_diagnostics.specs.TagMemory.{Finds, HasArea, IsCut, IsFirstBlock, IsFirstContainer, Reaches};
+ghost use Rattle.ndef_diagnostics.specs.TagMemory.{Stops, TellsCut, after_attributes, area_address, area_length};
+ghost use Rattle.ndef_diagnostics.specs.TagMemory.{area_size, attribute_wrapping, block_wrapping, blocks_at, file_at};
+ghost use Rattle.ndef_diagnostics.specs.TagMemory.{fits, found_by, four_octets, has_attributes, has_reserved_block};
+ghost use Rattle.ndef_diagnostics.specs.TagMemory.{in_block, in_blocks, in_file, in_other, is_attribute_version};
+ghost use Rattle.ndef_diagnostics.specs.TagMemory.{is_begun, is_container, is_control, is_dynamic, is_empty, is_met};
+ghost use Rattle.ndef_diagnostics.specs.TagMemory.{is_passed, is_version, meets, next_block, page_size, states_area};
+ghost use Rattle.ndef_diagnostics.specs.TagMemory.{two_octets, value_at, value_length};
 
 use crate::begun::{front_of, octet_at};
 
@@ -18,6 +23,11 @@ pub enum Wrapping {
     Attributes,
     /// The file that begins with its length (NFC Forum, Type 4 Tag).
     File,
+    /// An NDEF message TLV, of a tag whose reserved areas may lie inside the message, so that no command gives it
+    /// (NFC Forum, Type 1 Tag and Type 2 Tag).
+    Interrupted,
+    /// The attribute information block before it, of a tag that is being written (NFC Forum, Type 3 Tag).
+    Unfinished,
 }
 
 /// The bytes that a tag has for a message.
@@ -87,12 +97,19 @@ fn next_block(bytes: &[u8], place: usize) -> usize
     }
 }
 
+/// Whether an octet is a version from 1.0 to 1.3.
+fn is_version(octet: u8) -> bool
+    ensures { result ≡ is_version octet }
+{
+    0x10 <= octet && octet <= 0x13
+}
+
 /// Whether a capability container of a Type 1 Tag or a Type 2 Tag lies at a place.
 fn is_container(bytes: &[u8], place: usize) -> bool
     requires { place ≤ 2 ^ 24 }
     ensures { result ≡ is_container bytes.now place }
 {
-    octet_at(bytes, place) == 0xE1 && octet_at(bytes, place + 1) == 0x10
+    octet_at(bytes, place) == 0xE1 && is_version(octet_at(bytes, place + 1))
 }
 
 /// The place of the first one, if it lies at most 16 octets after the first.
@@ -148,6 +165,135 @@ fn first_block(bytes: &[u8], start: usize) -> Option<usize>
     }
 }
 
+/// Whether the block at a place states an area.
+fn is_control(bytes: &[u8], place: usize) -> bool
+    requires { place ≤ 2 ^ 24 }
+    ensures { result ≡ is_control bytes.now place }
+{
+    matches!(octet_at(bytes, place), 1 | 2) && value_length(bytes, place) == 3
+}
+
+/// The bytes of a page, by the value at a place.
+fn page_size(bytes: &[u8], at: usize) -> u32
+    requires { at ≤ 2 ^ 25 }
+    ensures value { result ≡ page_size bytes.now at }
+    ensures small { result ≤ 32768 }
+{
+    1 << u32::from(octet_at(bytes, at + 2) % 16)
+}
+
+/// The address of the area, by the value at a place.
+fn area_address(bytes: &[u8], at: usize) -> u32
+    requires { at ≤ 2 ^ 25 }
+    ensures value { result ≡ area_address bytes.now at }
+    ensures small { result < 2 ^ 20 }
+{
+    let first = octet_at(bytes, at);
+    u32::from(first / 16) * page_size(bytes, at) + u32::from(first % 16)
+}
+
+/// The size of an area as its block states it.
+fn area_size(octet: u8) -> u32
+    ensures value { result ≡ area_size octet }
+    ensures small { result ≤ 256 }
+{
+    if octet == 0 { 256 } else { u32::from(octet) }
+}
+
+/// The bytes of an area of that size.
+fn area_length(tag: u8, size: u32) -> u32
+    requires { size ≤ 256 }
+    ensures value { result ≡ area_length tag size }
+    ensures small { result ≤ 256 }
+{
+    if tag == 1 { (size + 7) / 8 } else { size }
+}
+
+/// Whether an area of this address and length may meet the bytes from the first block up to a place.
+fn meets(start: usize, until: usize, address: u32, length: u32) -> bool
+    requires small { (start ≤ 20) × (until ≤ 2 ^ 25) }
+    requires short { (address < 2 ^ 20) × (length ≤ 256) }
+    ensures { result ≡ meets start until address length }
+{
+    start + (address as usize) < until + 16 && 12 < address + length
+}
+
+/// Whether the area of the block at a place may meet those bytes, by the value at another.
+fn is_met(bytes: &[u8], start: usize, until: usize, place: usize, at: usize) -> bool
+    requires small { (start ≤ 20) × (until ≤ 2 ^ 25) }
+    requires near { at ≤ 2 ^ 25 }
+    ensures { result ≡ is_met bytes.now start until place at }
+{
+    let size = area_size(octet_at(bytes, at + 1));
+    let length = area_length(octet_at(bytes, place), size);
+    meets(start, until, area_address(bytes, at), length)
+}
+
+/// Whether the block at a place states an area that may meet those bytes.
+fn states_area(bytes: &[u8], start: usize, until: usize, place: usize) -> bool
+    requires small { (start ≤ 20) × (until ≤ 2 ^ 25) }
+    requires near { place ≤ 2 ^ 24 }
+    ensures { result ≡ states_area bytes.now start until place }
+{
+    is_control(bytes, place) && is_met(bytes, start, until, place, value_at(bytes, place))
+}
+
+/// Whether one of the blocks that a reader passes over states an area that may meet those bytes.
+fn is_area_among(bytes: &[u8], start: usize, until: usize) -> bool
+    requires length { length bytes.now ≤ 2 ^ 24 }
+    requires small { (start ≤ 20) × (until ≤ 2 ^ 25) }
+    ensures { IsTrue result ↔ HasArea bytes.now start until start }
+{
+    let mut place = start;
+    while place < bytes.len() && is_passed(bytes[place]) {
+        if states_area(bytes, start, until, place) {
+            return true;
+        }
+        place = next_block(bytes, place);
+    }
+    false
+}
+
+/// Whether a Type 1 Tag has a dynamic memory, by the place of its blocks.
+fn is_dynamic(bytes: &[u8], start: usize) -> bool
+    ensures { result ≡ is_dynamic bytes.now start }
+{
+    12 <= start && start <= 15 && 0x0F <= octet_at(bytes, start - 2)
+}
+
+/// Whether the reserved blocks of a dynamic memory begin before a place.
+fn has_reserved_block(bytes: &[u8], start: usize, until: usize) -> bool
+    requires { start ≤ 20 }
+    ensures { result ≡ has_reserved_block bytes.now start until }
+{
+    is_dynamic(bytes, start) && start + 92 < until
+}
+
+/// Whether reserved areas may lie between the first block and a place.
+fn is_cut_before(bytes: &[u8], start: usize, until: usize) -> bool
+    requires length { length bytes.now ≤ 2 ^ 24 }
+    requires small { (start ≤ 20) × (until ≤ 2 ^ 25) }
+    ensures { IsTrue result ↔ IsCut bytes.now start until }
+{
+    has_reserved_block(bytes, start, until) || is_area_among(bytes, start, until)
+}
+
+/// Whether reserved areas may lie among the blocks up to the end of a message in one of them.
+fn is_cut(bytes: &[u8], start: usize, block: Option<usize>) -> bool
+    requires length { length bytes.now ≤ 2 ^ 24 }
+    requires small { start ≤ 20 }
+    requires inside { IfSome block (λ place. place < 2 ^ 24) }
+    ensures { TellsCut bytes.now start block result }
+{
+    match block {
+        Some(place) => {
+            let until = value_at(bytes, place) + value_length(bytes, place) as usize;
+            is_cut_before(bytes, start, until)
+        }
+        None => false,
+    }
+}
+
 /// Whether a first octet has MB set, so that a message begins.
 fn is_begun(octet: u8) -> bool
     ensures { result ≡ is_begun octet }
@@ -155,16 +301,35 @@ fn is_begun(octet: u8) -> bool
     octet >= 0x80
 }
 
-/// Returns the bytes that the block at a place has for a message.
-fn in_block(bytes: &[u8], place: usize) -> Option<Found>
+/// Whether the block at a place has no bytes for a message, and its length is there.
+fn is_empty(bytes: &[u8], place: usize) -> bool
     requires { place ≤ 2 ^ 24 }
-    ensures { result ≡ in_block bytes.now place }
+    ensures { result ≡ is_empty bytes.now place }
+{
+    value_length(bytes, place) == 0 && value_at(bytes, place) <= bytes.len()
+}
+
+/// Returns the bytes around a message of this length in a block, which reserved areas may cut.
+fn block_wrapping(cut: bool, length: u32) -> Wrapping
+    ensures { result ≡ block_wrapping cut length }
+{
+    if cut && 0 < length {
+        Wrapping::Interrupted
+    } else {
+        Wrapping::Block
+    }
+}
+
+/// Returns the bytes that the block at a place has for a message, which reserved areas may cut.
+fn in_block(cut: bool, bytes: &[u8], place: usize) -> Option<Found>
+    requires { place ≤ 2 ^ 24 }
+    ensures { result ≡ in_block cut bytes.now place }
 {
     let at = value_at(bytes, place);
     let length = value_length(bytes, place);
-    if length == 0 || is_begun(octet_at(bytes, at)) {
+    if is_begun(octet_at(bytes, at)) || is_empty(bytes, place) {
         Some(Found {
-            wrapping: Wrapping::Block,
+            wrapping: block_wrapping(cut, length),
             at: at as u32,
             length,
         })
@@ -181,11 +346,29 @@ fn sum_of(octets: &[u8]) -> u32
     octets.iter().map(|octet| u32::from(*octet)).sum()
 }
 
+/// Whether an octet is the version of an attribute information block.
+fn is_attribute_version(octet: u8) -> bool
+    ensures { result ≡ is_attribute_version octet }
+{
+    octet == 0x10 || octet == 0x11
+}
+
 /// Whether the bytes begin with an attribute information block of a Type 3 Tag.
 fn has_attributes(bytes: &[u8]) -> bool
     ensures { result ≡ has_attributes bytes.now }
 {
-    octet_at(bytes, 0) == 0x10 && sum_of(front_of(bytes, 14)) == two_octets(bytes, 14)
+    is_attribute_version(octet_at(bytes, 0)) && sum_of(front_of(bytes, 14)) == two_octets(bytes, 14)
+}
+
+/// Returns what such a block is before, by its octet WriteF.
+fn attribute_wrapping(write: u8) -> Wrapping
+    ensures { result ≡ attribute_wrapping write }
+{
+    if write == 0 {
+        Wrapping::Attributes
+    } else {
+        Wrapping::Unfinished
+    }
 }
 
 /// Returns the place of the message after such a block.
@@ -193,26 +376,48 @@ fn after_attributes(bytes: &[u8]) -> Found
     ensures { result ≡ after_attributes bytes.now }
 {
     Found {
-        wrapping: Wrapping::Attributes,
+        wrapping: attribute_wrapping(octet_at(bytes, 9)),
         at: 16,
         length: 65536 * u32::from(octet_at(bytes, 11)) + two_octets(bytes, 12),
     }
 }
 
-/// Returns the bytes that a file of a Type 4 Tag has for a message.
-fn in_file(bytes: &[u8]) -> Option<Found>
-    ensures { result ≡ in_file bytes.now }
+/// Whether a file of this size fills the bytes, or, where it need not be whole, leaves some of them.
+fn fits(whole: bool, size: usize, all: usize) -> bool
+    ensures { result ≡ fits whole size all }
 {
-    let length = two_octets(bytes, 0);
-    if length >= 1 && 2 + length as usize <= bytes.len() && is_begun(octet_at(bytes, 2)) {
+    if whole { size == all } else { size <= all }
+}
+
+/// Returns the bytes for a message of this length at a place, in a file of a Type 4 Tag.
+fn file_at(whole: bool, bytes: &[u8], at: u32, size: u32) -> Option<Found>
+    requires { at ≤ 4 }
+    ensures { result ≡ file_at whole bytes.now at size }
+{
+    let end = at as usize + size as usize;
+    if size >= 1 && fits(whole, end, bytes.len()) && is_begun(octet_at(bytes, at as usize)) {
         Some(Found {
             wrapping: Wrapping::File,
-            at: 2,
-            length,
+            at,
+            length: size,
         })
     } else {
         None
     }
+}
+
+/// The number that the first four octets spell.
+fn four_octets(bytes: &[u8]) -> u32
+    ensures { result ≡ four_octets bytes.now }
+{
+    65536 * two_octets(bytes, 0) + two_octets(bytes, 2)
+}
+
+/// Returns the bytes that a file of a Type 4 Tag has for a message.
+fn in_file(whole: bool, bytes: &[u8]) -> Option<Found>
+    ensures { result ≡ in_file whole bytes.now }
+{
+    file_at(whole, bytes, 2, two_octets(bytes, 0)).or(file_at(whole, bytes, 4, four_octets(bytes)))
 }
 
 /// Returns the bytes for a message in these bytes, if they have no block.
@@ -222,29 +427,40 @@ fn in_other(bytes: &[u8]) -> Option<Found>
     if has_attributes(bytes) {
         Some(after_attributes(bytes))
     } else {
-        in_file(bytes)
+        in_file(false, bytes)
     }
 }
 
-/// Returns the bytes for a message in these bytes, from the place of the first block for one.
-fn found_by(block: Option<usize>, bytes: &[u8]) -> Option<Found>
+/// Returns the bytes for a message in these bytes, if no file of them is whole, from the place of the first block for
+/// one.
+fn in_blocks(block: Option<usize>, cut: bool, bytes: &[u8]) -> Option<Found>
     requires { IfSome block (λ place. place < 2 ^ 24) }
-    ensures { result ≡ found_by block bytes.now }
+    ensures { result ≡ in_blocks block cut bytes.now }
 {
     match block {
-        Some(place) => in_block(bytes, place).or(in_other(bytes)),
+        Some(place) => in_block(cut, bytes, place).or(in_other(bytes)),
         None => in_other(bytes),
     }
 }
 
-/// Returns the bytes that the memory of a tag, or a file of it, has for a message: those of its first NDEF message TLV,
-/// after its attribute information block, or after the length of its file (NFC Forum, Type 1 to Type 5 Tag). None if
-/// the bytes look like none of these. It looks at the first 16 MiB, in a time that is linear in their number.
+/// Returns the bytes for a message in these bytes, from the place of the first block for one.
+fn found_by(block: Option<usize>, cut: bool, bytes: &[u8]) -> Option<Found>
+    requires { IfSome block (λ place. place < 2 ^ 24) }
+    ensures { result ≡ found_by block cut bytes.now }
+{
+    in_file(true, bytes).or(in_blocks(block, cut, bytes))
+}
+
+/// Returns the bytes that the memory of a tag, or a file of it, has for a message: those of a file that is as long as
+/// it says, of its first NDEF message TLV, after its attribute information block, or after the length of a longer file
+/// (NFC Forum, Type 1 to Type 5 Tag). None if the bytes look like none of these. It looks at the first 16 MiB, in a
+/// time that is linear in their number.
 pub(crate) fn found_in(bytes: &[u8]) -> Option<Found>
     ensures { Finds bytes.now result }
 {
     let front = front_of(bytes, MOST);
     let container = first_container(front);
     let start = blocks_at(container, front);
-    found_by(first_block(front, start), front)
+    let block = first_block(front, start);
+    found_by(block, is_cut(front, start, block), front)
 }
