@@ -16,8 +16,9 @@ use Rattle.ndef_c.specs.Buffers.{Gives}
 use Rattle.ndef_c.specs.RefusalMessages.{GivesNone}
 use Rattle.ndef_c.specs.declared.hints.NdefFound.{NdefFound}
 use Rattle.ndef_c.specs.declared.hints.TheConstants.{HINT_ATTRIBUTES, HINT_BASE64, HINT_CODE, HINT_DIGITS, HINT_FILE}
-use Rattle.ndef_c.specs.declared.hints.TheConstants.{HINT_FLIPPER, HINT_HEXDUMP, HINT_MESSAGE, HINT_PROXMARK}
-use Rattle.ndef_c.specs.declared.hints.TheConstants.{HINT_STANDARD, HINT_TERMINATOR, HINT_TLV, HINT_WORDS, HINT_XXD}
+use Rattle.ndef_c.specs.declared.hints.TheConstants.{HINT_FLIPPER, HINT_HEXDUMP, HINT_INTERRUPTED, HINT_MESSAGE}
+use Rattle.ndef_c.specs.declared.hints.TheConstants.{HINT_PROXMARK, HINT_STANDARD, HINT_TERMINATOR, HINT_TLV, HINT_UNFINISHED}
+use Rattle.ndef_c.specs.declared.hints.TheConstants.{HINT_WORDS, HINT_XXD}
 
 -- NDEF 1.0, messages: no hint applies where the bytes are refused
 pub record HasNoHint (limits : LimitValues) (bytes : List ℕ) : Type 0 where
@@ -50,6 +51,8 @@ abbrev pub tag_number : Wrapping → ℕ
 tag_number wrappings.Block = HINT_TLV
 tag_number wrappings.Attributes = HINT_ATTRIBUTES
 tag_number wrappings.File = HINT_FILE
+tag_number wrappings.Interrupted = HINT_INTERRUPTED
+tag_number wrappings.Unfinished = HINT_UNFINISHED
 
 -- the number of a hint on a text that spells bytes
 abbrev pub dump_number : DumpText → ℕ

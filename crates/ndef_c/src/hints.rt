@@ -41,6 +41,10 @@ pub const HINT_BASE64: u32 = 12;
 pub const HINT_CODE: u32 = 13;
 /// A reader of the standard profile accepts the bytes.
 pub const HINT_STANDARD: u32 = 14;
+/// Reserved areas of a tag may lie inside the message of an NDEF message TLV.
+pub const HINT_INTERRUPTED: u32 = 15;
+/// A Type 3 Tag is being written: its message is not whole yet.
+pub const HINT_UNFINISHED: u32 = 16;
 
 /// What may help where bytes are refused, by numbers.
 #[repr(C)]
@@ -50,7 +54,7 @@ pub struct NdefFound {
     pub hint: u32,
     /// The offset at which a message may begin; 0 where the hint names none.
     pub at: usize,
-    /// The number of bytes that a tag has for it; 0 where the hint names none.
+    /// The number of bytes there that a tag has for it; 0 where the hint names none.
     pub length: usize,
 }
 
@@ -62,6 +66,8 @@ fn tag_number(wrapping: Wrapping) -> u32
         Wrapping::Block => HINT_TLV,
         Wrapping::Attributes => HINT_ATTRIBUTES,
         Wrapping::File => HINT_FILE,
+        Wrapping::Interrupted => HINT_INTERRUPTED,
+        Wrapping::Unfinished => HINT_UNFINISHED,
     }
 }
 
