@@ -2,7 +2,6 @@ pub mod Asking
 pub mod Digits
 pub mod Dumps
 pub mod EachRun
-pub mod EndedRecords
 pub mod Ends
 pub mod Escapes
 pub mod JoinedPayloads

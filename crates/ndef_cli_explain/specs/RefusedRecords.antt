@@ -1,16 +1,11 @@
 -- The record in which bytes are refused: how many end before it, and where it ends.
-use Rattle.std.specs.Prelude.{◌≡◌, ℕ, ◌+◌, ◌-◌, ◌==◌, ◌&&◌, ◌||◌, not, Bool, Option, Some, None, List, [], ◌∷◌, length, take, slice_index, nat_le, if◌then◌else◌}
+use Rattle.std.specs.Prelude.{◌≡◌, ℕ, ◌+◌, ◌-◌, ◌==◌, ◌&&◌, ◌||◌, not, Bool, Option, Some, None, List, length, take, slice_index, nat_le, if◌then◌else◌}
 use Rattle.ndef_format.specs.HeadReasons.{is_set, tnf_number}
-use Rattle.ndef_format.specs.Records.{Piece}
 use Rattle.ndef_format.specs.declared.refusal.Refusal.{Refusal}
 use Rattle.ndef_fields.specs.Refusals.{AreWholeBefore}
 use Rattle.ndef_diagnostics.specs.Begun.{is_lengths_whole, least_record}
+use Rattle.ndef_diagnostics.specs.Wholes.{records_ended}
 use Rattle.ndef_cli_explain.specs.declared.refused_record.RefusedRecord.{RefusedRecord}
-
--- NDEF 1.0, chunked payloads: the number of records that end with one of these pieces: no chunk follows it
-abbrev pub records_ended : List Piece → ℕ
-records_ended [] = 0
-records_ended (p ∷ ps) = (if p.chunked then 0 else 1) + records_ended ps
 
 -- NDEF 1.0, messages: this number of records end in these bytes
 abbrev pub EndRecords : (bytes : List ℕ) → (count : ℕ) → Type 0

@@ -1,6 +1,7 @@
 pub mod Counts
 pub mod Ends
 pub mod Hints
+pub mod KeepsWhole
 pub mod LengthMismatches
 pub mod Nests
 pub mod PieceFronts

@@ -4,8 +4,7 @@ use Rattle.ndef_format.specs.HeadReasons.{is_set, tnf_number, width}
 use Rattle.ndef_format.specs.Records.{tnf_of}
 use Rattle.ndef_format.specs.declared.tnf.Tnf.{Tnf}
 use Rattle.ndef_format.specs.declared.tnf.Tnf.TheVariants as tnfs
-use Rattle.ndef_fields.specs.Refusals.{id_given, lengths_width}
-use Rattle.ndef_fields.specs.Fronts.{payload_length_come}
+use Rattle.ndef_piece.specs.Come.{id_given, lengths_width, payload_length_come}
 
 -- NDEF 1.0, PAYLOAD_LENGTH: the number that its octets spell, most significant first; 0 where some are missing
 abbrev pub spelled : (short : Bool) → List ℕ → ℕ

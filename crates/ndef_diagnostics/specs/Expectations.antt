@@ -9,13 +9,15 @@ use Rattle.ndef_format.specs.declared.reason.Reason.TheVariants as reasons
 use Rattle.ndef_format.specs.declared.refusal.Refusal.{Refusal}
 use Rattle.ndef_format.specs.declared.table.Table.{Table}
 use Rattle.ndef_format.specs.declared.table.Table.TheVariants as tables
-use Rattle.ndef_fields.specs.Fronts.{content_come, kind_begun, kind_come, tnf_come}
-use Rattle.ndef_fields.specs.Messages.{version_length}
-use Rattle.ndef_fields.specs.Refusals.{AreWholeBefore, ends_in_chunk}
+use Rattle.ndef_piece.specs.Come.{content_come, kind_come}
+use Rattle.ndef_piece.specs.Steps.{version_length}
+use Rattle.ndef_fields.specs.Fronts.{kind_begun, tnf_come}
+use Rattle.ndef_fields.specs.Refusals.{AreWholeBefore}
 use Rattle.ndef_fields.specs.declared.name.FieldName.TheVariants as names
 use Rattle.ndef_diagnostics.specs.Begun.{before_payload, head_length, id_length, is_kind_whole, is_length_whole, is_lengths_whole, is_payload_begun, is_size_known, kind_to_come, least_record, payload_length, through}
 use Rattle.ndef_diagnostics.specs.PosterHeads.{of_uri}
 use Rattle.ndef_diagnostics.specs.LengthMismatches.{least_nest, length_mismatch, of_least}
+use Rattle.ndef_diagnostics.specs.Wholes.{ends_in_chunk}
 use Rattle.ndef_diagnostics.specs.declared.expected.Expected.{Expected}
 use Rattle.ndef_diagnostics.specs.declared.expected.Expected.TheVariants as expected
 use Rattle.ndef_diagnostics.specs.declared.expected.Whose.TheVariants as whose

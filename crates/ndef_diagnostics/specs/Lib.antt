@@ -9,4 +9,5 @@ pub mod TagMemory
 pub mod TextRemarks
 pub mod Truths
 pub mod Expectations
+pub mod Wholes
 pub mod Wordings

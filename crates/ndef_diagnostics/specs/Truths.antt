@@ -15,12 +15,13 @@ use Rattle.ndef_format.specs.declared.table.Table.{Table}
 use Rattle.ndef_format.specs.declared.table.Table.TheVariants as tables
 use Rattle.ndef_lang.specs.Lengths.{HasLength}
 use Rattle.ndef_lang.specs.Machine.Leaf.{leaf_lengths, leaf_of}
-use Rattle.ndef_fields.specs.Refusals.{AreWholeBefore, ends_in_chunk}
+use Rattle.ndef_fields.specs.Refusals.{AreWholeBefore}
 use Rattle.ndef_fields.specs.declared.name.FieldName.TheVariants as names
 use Rattle.ndef_diagnostics.specs.Begun.{is_lengths_whole, least_record}
 use Rattle.ndef_diagnostics.specs.LengthMismatches.{least_nest, length_mismatch}
 use Rattle.ndef_diagnostics.specs.PosterHeads.{of_uri}
 use Rattle.ndef_diagnostics.specs.Expectations.{missing, missing_after, of_collision, of_head}
+use Rattle.ndef_diagnostics.specs.Wholes.{ends_in_chunk}
 use Rattle.ndef_diagnostics.specs.declared.expected.Expected.{Expected}
 use Rattle.ndef_diagnostics.specs.declared.expected.Expected.TheVariants as expected
 

@@ -1,10 +1,10 @@
 //! A piece of a message, as far as it has come.
 ghost use Rattle.std.specs.Prelude.{◌≡◌, ◌<◌, ◌≤◌, ◌^◌, drop, slice_index, take};
+ghost use Rattle.ndef_piece.specs.Come.{content_come, kind_come};
 ghost use Rattle.ndef_diagnostics.specs.Begun.{before_payload, has_kind, head_length, id_length, is_kind_whole};
 ghost use Rattle.ndef_diagnostics.specs.Begun.{is_length_whole, is_lengths_whole, is_payload_begun, is_size_known};
 ghost use Rattle.ndef_diagnostics.specs.Begun.{kind_to_come, least_record, payload_length, spelled, through};
 
-use ndef_fields::piece_front;
 use ndef_format::Tnf;
 use ndef_format::header::{ID_THERE, SHORT, is_set, width};
 use ndef_piece::header_tnf;
@@ -60,8 +60,9 @@ pub(crate) fn payload_length(octets: &[u8]) -> u64
     ensures value { result ≡ payload_length octets.now }
     ensures small { result < 2 ^ 32 }
 {
-    let short = is_set(SHORT, octet_at(octets, 0));
-    spelled(short, piece_front(octets).head.payload_length)
+    let header = octet_at(octets, 0);
+    let come = front_of(after(octets, 2), width(header));
+    spelled(is_set(SHORT, header), come)
 }
 
 /// The number of octets before TYPE.
@@ -112,6 +113,21 @@ pub(crate) fn before_payload(octets: &[u8]) -> usize
     ensures small { result < 1024 }
 {
     head_length(octets) + usize::from(octet_at(octets, 1)) + usize::from(id_length(octets))
+}
+
+/// The octets of TYPE that have come.
+pub(crate) fn kind_come(octets: &[u8]) -> &[u8]
+    ensures { result.now ≡ kind_come octets.now }
+{
+    let rest = after(octets, head_length(octets));
+    front_of(rest, usize::from(octet_at(octets, 1)))
+}
+
+/// The octets of the payload that have come, and those after it.
+pub(crate) fn content_come(octets: &[u8]) -> &[u8]
+    ensures { result.now ≡ content_come octets.now }
+{
+    after(octets, before_payload(octets))
 }
 
 /// Whether the octets reach the payload.

@@ -1,8 +1,8 @@
 //! The expectation at a refusal, from the bytes up to the refused one.
 ghost use Rattle.std.specs.Prelude.{◌≡◌, drop, length, take};
 ghost use Rattle.ndef_format.specs.Nested.{table_in};
-ghost use Rattle.ndef_fields.specs.Fronts.{content_come, kind_begun};
-ghost use Rattle.ndef_fields.specs.Messages.{version_length};
+ghost use Rattle.ndef_piece.specs.Steps.{version_length};
+ghost use Rattle.ndef_fields.specs.Fronts.{kind_begun};
 ghost use Rattle.ndef_diagnostics.specs.LengthMismatches.{least_nest};
 ghost use Rattle.ndef_diagnostics.specs.Expectations.{IsExpected, IsExpectedBy, IsExpectedIn, after_two, in_head, in_message};
 ghost use Rattle.ndef_diagnostics.specs.Expectations.{in_nested, is_collision, is_end, missing, missing_after, nest_after};
@@ -11,14 +11,15 @@ ghost use Rattle.ndef_diagnostics.specs.Expectations.{of_end, of_head, of_nest, 
 ghost use Rattle.ndef_diagnostics.specs.Expectations.{outer_length_mismatch, outer_expected};
 
 use crate::begun::{
-    after, before_payload, bytes_before, head_length, id_length, is_kind_whole, is_length_whole,
-    is_lengths_whole, is_payload_begun, is_size_known, kind_to_come, least_record, octet_at,
-    payload_length, through,
+    after, before_payload, bytes_before, content_come, head_length, id_length, is_kind_whole,
+    is_length_whole, is_lengths_whole, is_payload_begun, is_size_known, kind_come, kind_to_come,
+    least_record, octet_at, payload_length, through,
 };
 use crate::length_mismatch::{length_mismatch, of_least};
 use crate::poster_heads::of_uri;
+use crate::wholes::whole_pieces;
 use crate::{Expected, Whose};
-use ndef_fields::{FieldName, piece_front, whole_pieces};
+use ndef_fields::FieldName;
 use ndef_format::header::{CHUNK, END, ID_THERE, is_set, width};
 use ndef_format::{Reason, Refusal, Table};
 use ndef_lang::Kind;
@@ -77,11 +78,11 @@ fn missing_after(input: &[u8], in_chunks: bool, come: &[u8]) -> Expected
 fn kind_begun(octets: &[u8]) -> Kind
     ensures { result ≡ kind_begun octets.now }
 {
-    let front = piece_front(octets);
-    if is_set(CHUNK, front.header) {
+    let header = octet_at(octets, 0);
+    if is_set(CHUNK, header) {
         Kind::Other
     } else {
-        Kind::of(header_tnf(front.header), front.head.kind)
+        Kind::of(header_tnf(header), kind_come(octets))
     }
 }
 
@@ -127,7 +128,7 @@ fn in_message(octets: &[u8]) -> Expected
         outer_length_mismatch(
             kind_begun(octets),
             payload_length(octets),
-            piece_front(octets).content,
+            content_come(octets),
         )
     } else {
         Expected::Nothing
@@ -235,9 +236,8 @@ fn in_nested(table: Table, number: u64, left: u64, octets: &[u8]) -> Expected
     if !is_kind_whole(octets) {
         return in_head(table, number, left, octets);
     }
-    let front = piece_front(octets);
-    let kind = table.kind(header_tnf(front.header), front.head.kind);
-    length_mismatch(kind, payload_length(octets), front.content)
+    let kind = table.kind(header_tnf(octet_at(octets, 0)), kind_come(octets));
+    length_mismatch(kind, payload_length(octets), content_come(octets))
 }
 
 /// The same, by the reason.
@@ -280,10 +280,7 @@ fn nest_begun(octets: &[u8]) -> Option<Table>
     ensures { result ≡ nest_begun octets.now }
 {
     if is_payload_begun(octets) {
-        nest_after(
-            kind_begun(octets).table(),
-            piece_front(octets).content.len(),
-        )
+        nest_after(kind_begun(octets).table(), content_come(octets).len())
     } else {
         None
     }
@@ -303,7 +300,7 @@ fn version_length(table: Table) -> usize
 fn in_nest(table: Table, bytes: &[u8], refusal: Refusal, come: &[u8]) -> Expected
     ensures { IsExpectedIn (Some table) bytes.now refusal come.now result }
 {
-    let content = piece_front(come).content;
+    let content = content_come(come);
     let whole = whole_pieces(after(content, version_length(table)));
     let left = payload_length(come).saturating_sub(content.len() as u64) + whole.rest.len() as u64;
     let number = whole.count as u64 + 1;

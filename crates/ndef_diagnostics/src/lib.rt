@@ -4,7 +4,8 @@
 //! The files:
 //!
 //! - `expected.rt`: the expectation. `expecting.rt`, `specs/Expectations.antt`: from the bytes up to a refused one.
-//! - `begun.rt`, `specs/Begun.antt`: a piece as far as it has come.
+//! - `begun.rt`, `specs/Begun.antt`: a piece as far as it has come. `wholes.rt`, `specs/Wholes.antt`: the whole pieces
+//!   before it, and the records that end with them.
 //! - `length_mismatch.rt`, `specs/LengthMismatches.antt`: the expectation for a payload that doesn't fit its length.
 //! - `poster_heads.rt`, `specs/PosterHeads.antt`: the expectation in a head of a smart poster.
 //! - `hint.rt`, `hint_wording.rt`, `specs/Hints.antt`: hints. `tag_memory.rt`, `specs/TagMemory.antt`: the place of a
@@ -33,6 +34,7 @@ mod remark;
 mod sentence;
 mod tag_memory;
 mod text_remark;
+mod wholes;
 mod wording;
 
 pub use begun::{is_lengths_whole, least_record};
@@ -50,3 +52,4 @@ pub use remark::{Remark, field_remark};
 pub use sentence::{ROOM, Sentence};
 pub use tag_memory::{Found, Wrapping};
 pub use text_remark::text_remark_of;
+pub use wholes::{WholePieces, whole_pieces};

@@ -16,7 +16,7 @@ use Rattle.ndef_format.specs.declared.table.Table.{Table}
 use Rattle.ndef_lang.specs.declared.leaf.Stage.{Stage as Layout}
 use Rattle.ndef_lang.specs.declared.leaf.Stage.TheVariants as layouts
 use Rattle.ndef_lang.specs.declared.leaf.Leaf.{Leaf}
-use Rattle.ndef_lang.specs.declared.leaf.Leaf.TheVariants.{Field, Utf8, Utf16, Refused}
+use Rattle.ndef_lang.specs.declared.leaf.Leaf.TheVariants.{Field}
 use Rattle.ndef_lang.specs.Machine.Leaf.{leaf_of}
 use Rattle.ndef_piece.specs.Come.{body_given, fronts, fronts_from, id_given, id_length_width, lengths_width, size_come}
 use Rattle.ndef_piece.specs.Steps.{version_length}
@@ -48,11 +48,6 @@ reported_joined depth name (b ∷ s) = append-nil (b ∷ s)
 pub leaf_staged : (depth : ℕ) (kind : Kind) (s : List ℕ) → leaf_parts depth kind s ≡ stage_parts depth (stage_of kind) s
 leaf_staged depth kinds.Text s = refl
 leaf_staged depth _ s = refl
-
-two : (s : List ℕ) → drop 1 (drop 1 s) ≡ drop 2 s
-two [] = refl
-two (a ∷ []) = refl
-two (a ∷ b ∷ s) = refl
 
 drop_one : (n b : ℕ) (s : List ℕ) → 0 < n → drop (n - 1) s ≡ drop n (b ∷ s)
 drop_one zero b s h = absurd (omega (arith, h))
@@ -125,9 +120,7 @@ module _ (Deep : ℕ → Type 0) where
     fill_next layouts.ReferenceLength last s = fill_counted names.ReferenceLength names.Reference (auxiliary_parts depth) fill_auxiliary s
     fill_next layouts.AuxiliaryCount last s = fill_auxiliary s
     fill_next (layouts.References count) last s = fill_references count s
-    fill_next layouts.End last s = fill_one last s
-    fill_next layouts.Any last s = fill_one last s
-    fill_next layouts.Utf8 last s = fill_one last s
+    fill_next _ last s = fill_one last s
 
     fill_field : (left : ℕ) (name : FieldName) (next : Layout) (last : FieldName) (s : List ℕ) → Fill Deep s (parts_from depth left name next last s)
     fill_field left name layouts.End last s = fill_one last s
@@ -135,9 +128,7 @@ module _ (Deep : ℕ → Type 0) where
 
     fill_inside : (leaf : Leaf) (name last : FieldName) (s : List ℕ) → Fill Deep s (stage_parts depth (inside_of leaf name last) s)
     fill_inside (Field left class next) name last s = fill_field left name next last s
-    fill_inside (Utf8 text) name last s = fill_one last s
-    fill_inside (Utf16 text) name last s = fill_one last s
-    fill_inside (Refused reason) name last s = fill_one last s
+    fill_inside _ name last s = fill_one last s
 
     pub fill_leaf : (kind : Kind) (s : List ℕ) → Fill Deep s (leaf_parts depth kind s)
     fill_leaf kind s = subst (Fill Deep s) (sym (leaf_staged depth kind s)) (fill_inside (leaf_of kind Standard) (first_of kind) (last_of kind) s)
@@ -161,7 +152,7 @@ module _ (Deep : ℕ → Type 0) where
         (subst (λ x. Fill Deep x after_kind) (sym (drop-drop (id_length_width h) (width h) tail)) b) in
         let d = fill_cut names.PayloadLength (width h) tail after_there c in
         fill_cut names.Header 1 s (reported depth names.KindLength (take 1 (drop 1 s)) ++ after_length)
-        (fill_cut names.KindLength 1 (drop 1 s) after_length (subst (λ x. Fill Deep x after_length) (sym (two s)) d))
+        (fill_cut names.KindLength 1 (drop 1 s) after_length (subst (λ x. Fill Deep x after_length) (sym (drop-drop 1 1 s)) d))
 
     -- ---- what has come of pieces
     module _ (own : List ℕ → List Part) (filled : (s : List ℕ) → Fill Deep (content_come s) (own s)) where

@@ -35,31 +35,19 @@ pub record SameWhole (ps qs : List Piece) (x y r t : List ℕ) : Type 0 where
   pub front : x ≡ y
   pub rest : r ≡ t
 
+begins_on : (p : Piece) (ps : List Piece) (x y r t : List ℕ) → SpellsPieces (p ∷ ps) x → y ≡ [] → x ++ r ≡ y ++ t → BeginWithPiece t
+begins_on p ps x y r t (short, front, rest, ex, sp, s) none e = record {
+  piece = p;
+  short = short;
+  rest = rest ++ r;
+  split = record { front = front; spells = sp; joined = sym (ap (λ z. z ++ t) none) ∙ sym e ∙ ap (λ z. z ++ r) ex ∙ append_assoc front rest r };
+}
+
 pub same_pieces : (ps qs : List Piece) (x y r t : List ℕ) → SpellsPieces ps x → SpellsPieces qs y → x ++ r ≡ y ++ t
     → ¬ BeginWithPiece r → ¬ BeginWithPiece t → SameWhole ps qs x y r t
 same_pieces [] [] x y r t a b e h k = record { pieces = refl; front = a ∙ sym b; rest = sym (ap (λ z. z ++ r) a) ∙ e ∙ ap (λ z. z ++ t) b }
-same_pieces (p ∷ ps) [] x y r t (short, front, rest, ex, sp, s) b e h k =
-    absurd (k (record {
-      piece = p;
-      short = short;
-      rest = rest ++ r;
-      split = record {
-        front = front;
-        spells = sp;
-        joined = sym (ap (λ z. z ++ t) b) ∙ sym e ∙ ap (λ z. z ++ r) ex ∙ append_assoc front rest r;
-      };
-    }))
-same_pieces [] (q ∷ qs) x y r t a (short, front, rest, ey, sp, s) e h k =
-    absurd (h (record {
-      piece = q;
-      short = short;
-      rest = rest ++ t;
-      split = record {
-        front = front;
-        spells = sp;
-        joined = sym (ap (λ z. z ++ r) a) ∙ e ∙ ap (λ z. z ++ t) ey ∙ append_assoc front rest t;
-      };
-    }))
+same_pieces (p ∷ ps) [] x y r t a b e h k = absurd (k (begins_on p ps x y r t a b e))
+same_pieces [] (q ∷ qs) x y r t a b e h k = absurd (h (begins_on q qs y x t r b a (sym e)))
 same_pieces (p ∷ ps) (q ∷ qs) x y r t (short, front, rest, ex, sp, s) (form, first, later, ey, tp, u) e h k =
     let a : IsSplit p short (rest ++ r) (x ++ r) = record { front = front; spells = sp; joined = ap (λ z. z ++ r) ex ∙ append_assoc front rest r } in
     let b : IsSplit q form (later ++ t) (x ++ r) = record { front = first; spells = tp; joined = e ∙ ap (λ z. z ++ t) ey ∙ append_assoc first later t } in

@@ -18,11 +18,12 @@ use Rattle.ndef_format.specs.Positions.{Field, InHead, InType, InId, InPayload, 
 use Rattle.ndef_piece.specs.HeaderLaws.{header, header_parts}
 use Rattle.ndef_piece.specs.Come.{fronts, id_given, id_length_width, lengths_width}
 use Rattle.ndef_piece.specs.ComeLaws.{Come, come, fronts_begun}
+use Rattle.ndef_fields.specs.declared.field.Field.{Field as Reported}
 use Rattle.ndef_fields.specs.declared.last.ByteField.{ByteField}
 use Rattle.ndef_fields.specs.declared.name.FieldName.{FieldName}
 use Rattle.ndef_fields.specs.declared.name.FieldName.TheVariants as names
 use Rattle.ndef_fields.specs.Fronts.{content_come, front_parts, id_come, id_length_come, inner_come, kind_begun, kind_come, payload_length_come, tnf_come}
-use Rattle.ndef_fields.specs.Lasts.{EndsIn, EndsInField, StandsIn, IsFieldOf, IsFieldOfLast, IsInnerField, IsLastBy, IsLastInside, kind_there, last_from}
+use Rattle.ndef_fields.specs.Lasts.{EndsIn, StandsIn, IsFieldOf, IsFieldOfLast, IsInnerField, IsLastBy, IsLastInside, kind_there}
 use Rattle.ndef_fields.specs.Parts.{Part, placed, reported}
 use Rattle.ndef_fields.specs.Payloads.{leaf_parts}
 use Rattle.ndef_fields.specs.Refusals.{IsNameOf}
@@ -34,7 +35,19 @@ use Rattle.ndef_fields.proofs.SoFar.{in_id, in_type}
 use Rattle.ndef_fields.proofs.Walks.{parts_after}
 
 -- ---- the last of some parts
-pub last_ends : (at : ℕ) (parts : List Part) (byte : ByteField) → 0 < length parts → EndsInField parts (last_from byte (placed at parts))
+
+-- the last of some parts is this field
+abbrev EndsInField : List Part → ByteField → Type 0
+EndsInField [] byte = ⊥
+EndsInField (part ∷ []) byte = (byte.depth ≡ part.depth) × (byte.name ≡ part.name)
+EndsInField (part ∷ next ∷ parts) byte = EndsInField (next ∷ parts) byte
+
+-- the last of these fields; this one where there are none
+abbrev pub last_from : ByteField → List Reported → ByteField
+last_from byte [] = byte
+last_from byte (f ∷ fields) = last_from (record { depth = f.depth; name = f.name }) fields
+
+last_ends : (at : ℕ) (parts : List Part) (byte : ByteField) → 0 < length parts → EndsInField parts (last_from byte (placed at parts))
 last_ends at [] byte n = absurd (omega (arith, n))
 last_ends at (part ∷ []) byte n = (refl, refl)
 last_ends at (part ∷ next ∷ parts) byte n = last_ends (at + length part.octets) (next ∷ parts) (record { depth = part.depth; name = part.name }) (omega arith)
@@ -61,21 +74,6 @@ ends_there depth (part ∷ []) byte all h = (h.0 ∙ all.0.1, h.1)
 ends_there depth (part ∷ next ∷ parts) byte all h = ends_there depth (next ∷ parts) byte all.1 h
 
 -- ---- a field of a head
-
-at_2 : (a b c : List Part) → a ++ (b ++ c) ≡ (a ++ b) ++ c
-at_2 a b c = sym (append_assoc a b c)
-
-at_3 : (a b c d : List Part) → a ++ (b ++ (c ++ d)) ≡ ((a ++ b) ++ c) ++ d
-at_3 a b c d = simp append_assoc
-
-at_4 : (a b c d e : List Part) → a ++ (b ++ (c ++ (d ++ e))) ≡ (((a ++ b) ++ c) ++ d) ++ e
-at_4 a b c d e = simp append_assoc
-
-at_5 : (a b c d e f : List Part) → a ++ (b ++ (c ++ (d ++ (e ++ f)))) ≡ ((((a ++ b) ++ c) ++ d) ++ e) ++ f
-at_5 a b c d e f = simp append_assoc
-
-at_6 : (a b c d e f g : List Part) → a ++ (b ++ (c ++ (d ++ (e ++ (f ++ g))))) ≡ (((((a ++ b) ++ c) ++ d) ++ e) ++ f) ++ g
-at_6 a b c d e f g = simp append_assoc
 
 -- what has come of a piece after its first two octets
 record NoneCome (t : List ℕ) : Type 0 where
@@ -153,22 +151,24 @@ module _ (depth : ℕ) (byte : ByteField) where
 
     in_payload_length : id_length_come t ≡ [] → NoBody t → 0 < length (payload_length_come t) → (byte.depth ≡ depth) × (byte.name ≡ names.PayloadLength)
     in_payload_length n m some =
-        ends (a ++ b) names.PayloadLength (payload_length_come t) (d ++ (e ++ (f ++ y))) (front_parts depth t y) (at_2 a b (c ++ (d ++ (e ++ (f ++ y)))))
+        ends (a ++ b) names.PayloadLength (payload_length_come t) (d ++ (e ++ (f ++ y))) (front_parts depth t y) (simp append_assoc)
         (ap (λ i. reported depth names.IdLength i ++ (e ++ (f ++ y))) n ∙ no_more m) some h
 
     in_id_length : NoBody t → 0 < length (id_length_come t) → (byte.depth ≡ depth) × (byte.name ≡ names.IdLength)
-    in_id_length m some = ends ((a ++ b) ++ c) names.IdLength (id_length_come t) (e ++ (f ++ y)) (front_parts depth t y) (at_3 a b c (d ++ (e ++ (f ++ y)))) (no_more m) some h
+    in_id_length m some = ends ((a ++ b) ++ c) names.IdLength (id_length_come t) (e ++ (f ++ y)) (front_parts depth t y) (simp append_assoc) (no_more m) some h
 
     in_kind : id_come t ≡ [] → content_come t ≡ [] → 0 < length (kind_come t) → (byte.depth ≡ depth) × (byte.name ≡ names.Kind)
     in_kind i m some =
-        ends (((a ++ b) ++ c) ++ d) names.Kind (kind_come t) (f ++ y) (front_parts depth t y) (at_4 a b c d (e ++ (f ++ y)))
+        ends (((a ++ b) ++ c) ++ d) names.Kind (kind_come t) (f ++ y) (front_parts depth t y) (simp append_assoc)
         (ap (λ x. reported depth names.Id x ++ y) i ∙ none m) some h
 
     in_id_field : content_come t ≡ [] → 0 < length (id_come t) → (byte.depth ≡ depth) × (byte.name ≡ names.Id)
-    in_id_field m some = ends ((((a ++ b) ++ c) ++ d) ++ e) names.Id (id_come t) y (front_parts depth t y) (at_5 a b c d e (f ++ y)) (none m) some h
+    in_id_field m some = ends ((((a ++ b) ++ c) ++ d) ++ e) names.Id (id_come t) y (front_parts depth t y) (simp append_assoc) (none m) some h
 
     in_payload : 0 < length y → EndsInField y byte
-    in_payload some = back (((((a ++ b) ++ c) ++ d) ++ e) ++ f) y byte some (subst (λ x. EndsInField x byte) (at_6 a b c d e f y) h)
+    in_payload some =
+        let is : front_parts depth t y ≡ (((((a ++ b) ++ c) ++ d) ++ e) ++ f) ++ y = simp append_assoc in
+        back (((((a ++ b) ++ c) ++ d) ++ e) ++ f) y byte some (subst (λ x. EndsInField x byte) is h)
 
 -- ---- the octets so far, and one more
 some_take : (n : ℕ) (z : List ℕ) → 0 < n → 0 < length z → 0 < length (take n z)
@@ -285,10 +285,7 @@ inner_field table spot (InPayload f kind id content) o byte p h =
     let l = fill_leaf (λ d. d ≡ 1) 1 refl k s in
     let y = subst (λ x. 0 < length x) (sym is) (something (λ d. d ≡ 1) s (leaf_parts 1 k s) l (one_there content o)) in
     (ends_there 1 (leaf_parts 1 k s) byte l.each (subst (λ x. EndsInField x byte) is (in_payload 1 byte t (inner_come table t) (inner_none table t) h y))).1
-inner_field table spot (InHead s) o byte p h = (head_field 1 (inner_come table) (inner_none table) spot (InHead s) o byte p h).1
-inner_field table spot (InType f kind) o byte p h = (head_field 1 (inner_come table) (inner_none table) spot (InType f kind) o byte p h).1
-inner_field table spot (InId f kind id) o byte p h = (head_field 1 (inner_come table) (inner_none table) spot (InId f kind id) o byte p h).1
-inner_field table spot AtEnd o byte p h = (head_field 1 (inner_come table) (inner_none table) spot AtEnd o byte p h).1
+inner_field table spot field o byte p h = (head_field 1 (inner_come table) (inner_none table) spot field o byte p h).1
 
 inner_last : (table : Table) (s : List ℕ) (byte : ByteField) → EndsInField (inner_in table s) byte → (byte.depth ≡ 1) × IsLastInside table s byte.name
 unfolding inner_in
@@ -328,10 +325,7 @@ outer_field spot (InPayload f kind id content) o byte p h =
     let some = something Anywhere s (payload_parts k s) (fill_payload Anywhere tt tt k s) (one_there content o) in
     let y = subst (λ x. 0 < length x) (sym is) some in
     last_by (table_in k) k s byte (one_there content o) (subst (λ x. EndsInField x byte) is (in_payload 0 byte t (outer_come t) (outer_none t) h y))
-outer_field spot (InHead s) o byte p h = head_field 0 outer_come outer_none spot (InHead s) o byte p h
-outer_field spot (InType f kind) o byte p h = head_field 0 outer_come outer_none spot (InType f kind) o byte p h
-outer_field spot (InId f kind id) o byte p h = head_field 0 outer_come outer_none spot (InId f kind id) o byte p h
-outer_field spot AtEnd o byte p h = head_field 0 outer_come outer_none spot AtEnd o byte p h
+outer_field spot field o byte p h = head_field 0 outer_come outer_none spot field o byte p h
 
 -- the last field is that of the last byte
 pub field_last : (bytes : List ℕ) (first byte : ByteField) → byte ≡ last_from first (placed 0 (outer_in bytes)) → IsFieldOfLast bytes byte

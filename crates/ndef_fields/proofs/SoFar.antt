@@ -1,7 +1,7 @@
 -- The fields of a front of a message, if the next octet is in a field.
-use Rattle.std.proofs.Common.{◌≡◌, ℕ, ◌+◌, ◌<◌, ◌≤◌, refl, sym, ◌∙◌, ap, ap₂, subst, arith, List, [], ◌∷◌, ◌++◌, length, take, drop, take_at, drop_at}
+use Rattle.std.proofs.Common.{◌≡◌, ℕ, ◌+◌, ◌<◌, ◌≤◌, sym, ◌∙◌, ap, ap₂, subst, arith, List, [], ◌∷◌, ◌++◌, length, take, drop, take_at, drop_at}
 use Rattle.std.specs.Prelude.{slice_index, unwrap_or}
-use Rattle.std.proofs.lemmas.List.{append-nil, drop_all, drop-drop, take_all}
+use Rattle.std.proofs.lemmas.List.{drop_all, drop-drop, take_all}
 use Rattle.std.proofs.Math.Seq.{drop-nil, take-nil}
 use Rattle.ndef_format.specs.Records.{HeadFields, octets}
 use Rattle.ndef_format.specs.Messages.{all_pieces}
@@ -9,12 +9,13 @@ use Rattle.ndef_format.specs.declared.spot.Spot.{Spot}
 use Rattle.ndef_format.specs.Positions.{Field, AtEnd, CanBeSpelled, InHead, InId, InPayload, InType, IsOpen, IsProper, octets_so_far, spot_after}
 use Rattle.ndef_piece.specs.Come.{body_given, id_given, lengths_width}
 use Rattle.ndef_piece.specs.ComeLaws.{Come, come, head_come}
-use Rattle.ndef_fields.specs.declared.name.FieldName.TheVariants as names
 use Rattle.ndef_fields.specs.Fronts.{ArePayloadFront, content_come, front_parts, kind_begun}
-use Rattle.ndef_fields.specs.Parts.{Part, reported}
-use Rattle.ndef_fields.specs.SoFar.{FrontsAreSoFar, head_parts, parts_so_far}
+use Rattle.ndef_fields.specs.Parts.{Part}
+use Rattle.ndef_fields.specs.Messages.{head_parts}
+use Rattle.ndef_fields.specs.SoFar.{FrontsAreSoFar, parts_so_far}
 use Rattle.ndef_fields.proofs.Filled.{Anywhere, Fill, nothing}
 use Rattle.ndef_fields.proofs.FrontLaws.{payload_fill, same_pieces}
+use Rattle.ndef_fields.proofs.Fronts.{parts_come}
 use Rattle.ndef_fields.proofs.Proper.{not_whole, short_head}
 
 -- where no octet of a payload has come it has no parts
@@ -24,43 +25,34 @@ no_payload s payload h e =
 
 -- ---- in TYPE, and in ID
 
-pub in_type : (f : HeadFields) (kind : List ℕ) → CanBeSpelled f → length kind ≤ f.kind_length → Come f kind [] [] (octets f ++ kind)
-in_type f kind c l =
-    let s = octets f ++ kind in
-    let h = slice_index s 0 in
-    let tail = drop 2 s in
-    let b = head_come f kind c in
-    let past_kind : drop f.kind_length (body_given h tail) ≡ [] = ap (drop f.kind_length) b.body ∙ drop_all f.kind_length kind (omega (arith, l)) in
+-- the fields of a piece with this head, by what has come after it
+by_body : (f : HeadFields) (kind id content z : List ℕ) → CanBeSpelled f → take f.kind_length z ≡ kind → take (unwrap_or f.id_length 0) (drop f.kind_length z) ≡ id
+    → drop (unwrap_or f.id_length 0) (drop f.kind_length z) ≡ content → Come f kind id content (octets f ++ z)
+by_body f kind id content z c k i d =
+    let s = octets f ++ z in
+    let b = head_come f z c in
     record {
       payload_length = b.payload_length;
       id_length = b.id_length;
-      kind_is = ap (take f.kind_length) b.body ∙ take_all f.kind_length kind (omega (arith, l));
-      id_is = ap (take (id_given h tail)) past_kind ∙ take-nil (id_given h tail);
+      kind_is = ap (take f.kind_length) b.body ∙ k;
+      id_is = ap₂ (λ n x. take n (drop f.kind_length x)) b.id_count b.body ∙ i;
       content_is =
-          sym (drop-drop (id_given h tail) f.kind_length (body_given h tail))
-          ∙ ap (drop (id_given h tail)) past_kind
-          ∙ drop-nil (id_given h tail);
+          sym (drop-drop (id_given (slice_index s 0) (drop 2 s)) f.kind_length (body_given (slice_index s 0) (drop 2 s)))
+          ∙ ap₂ (λ n x. drop n (drop f.kind_length x)) b.id_count b.body ∙ d;
     }
+
+pub in_type : (f : HeadFields) (kind : List ℕ) → CanBeSpelled f → length kind ≤ f.kind_length → Come f kind [] [] (octets f ++ kind)
+in_type f kind c l =
+    let n = unwrap_or f.id_length 0 in
+    let past = drop_all f.kind_length kind l in
+    by_body f kind [] [] kind c (take_all f.kind_length kind l) (ap (take n) past ∙ take-nil n) (ap (drop n) past ∙ drop-nil n)
 
 pub in_id : (f : HeadFields) (kind id : List ℕ) → CanBeSpelled f → length kind ≡ f.kind_length → length id ≤ unwrap_or f.id_length 0
     → Come f kind id [] (octets f ++ (kind ++ id))
 in_id f kind id c lk li =
-    let s = octets f ++ (kind ++ id) in
-    let h = slice_index s 0 in
-    let tail = drop 2 s in
-    let b = head_come f (kind ++ id) c in
-    let i = b.id_count in
-    let past_kind : drop f.kind_length (body_given h tail) ≡ id = ap (drop f.kind_length) b.body ∙ drop_at kind id f.kind_length (omega (arith, lk)) in
-    record {
-      payload_length = b.payload_length;
-      id_length = b.id_length;
-      kind_is = ap (take f.kind_length) b.body ∙ take_at kind id f.kind_length (omega (arith, lk));
-      id_is = ap (take (id_given h tail)) past_kind ∙ take_all (id_given h tail) id (omega (arith, i, li));
-      content_is =
-          sym (drop-drop (id_given h tail) f.kind_length (body_given h tail))
-          ∙ ap (drop (id_given h tail)) past_kind
-          ∙ drop_all (id_given h tail) id (omega (arith, i, li));
-    }
+    let n = unwrap_or f.id_length 0 in
+    let past = drop_at kind id f.kind_length lk in
+    by_body f kind id [] (kind ++ id) c (take_at kind id f.kind_length lk) (ap (take n) past ∙ take_all n id li) (ap (drop n) past ∙ drop_all n id li)
 
 -- ---- in the head
 
@@ -80,27 +72,20 @@ in_head spot (h ∷ k ∷ s) p = let l = short_head spot h (k ∷ s) p in no_con
 
 -- ---- any field
 
--- the parts of a piece of which these have come
-parts_come : (f : HeadFields) (kind id content s z : List ℕ) (payload : List Part) → s ≡ octets f ++ z → Come f kind id content (octets f ++ z)
-    → front_parts 0 s payload ≡ head_parts f (reported 0 names.Kind kind ++ (reported 0 names.Id id ++ payload))
-parts_come f kind id content s z payload e c = rw e (rw (c.payload_length, c.id_length, c.kind_is, c.id_is) refl)
-
 so_far : (spot : Spot) (field : Field) (s : List ℕ) (payload : List Part) → IsProper spot field → s ≡ octets_so_far field
     → ArePayloadFront (kind_begun s) (content_come s) payload → front_parts 0 s payload ≡ parts_so_far field payload
 so_far spot (InHead front) s payload p e h =
     ap₂ (front_parts 0) e (no_payload s payload h (ap content_come e ∙ in_head spot front p))
 so_far spot (InType f kind) s payload p e h =
     let c = in_type f kind p.0.stands.spelled (let l = p.1 in omega (arith, l)) in
-    parts_come f kind [] [] s kind payload e c
-    ∙ ap (λ x. head_parts f (reported 0 names.Kind kind ++ x)) (no_payload s payload h (ap content_come e ∙ c.content_is))
-    ∙ ap (head_parts f) (append-nil (reported 0 names.Kind kind))
+    parts_come 0 f kind [] [] s kind payload e c
+    ∙ ap (head_parts 0 f kind []) (no_payload s payload h (ap content_come e ∙ c.content_is))
 so_far spot (InId f kind id) s payload p e h =
     let c = in_id f kind id p.0.stands.spelled p.1 (let l = p.2 in omega (arith, l)) in
-    parts_come f kind id [] s (kind ++ id) payload e c
-    ∙ ap (λ x. head_parts f (reported 0 names.Kind kind ++ (reported 0 names.Id id ++ x))) (no_payload s payload h (ap content_come e ∙ c.content_is))
-    ∙ ap (λ x. head_parts f (reported 0 names.Kind kind ++ x)) (append-nil (reported 0 names.Id id))
+    parts_come 0 f kind id [] s (kind ++ id) payload e c
+    ∙ ap (head_parts 0 f kind id) (no_payload s payload h (ap content_come e ∙ c.content_is))
 so_far spot (InPayload f kind id content) s payload p e h =
-    parts_come f kind id content s (kind ++ (id ++ content)) payload e (come f kind id content p.0.stands.spelled p.1 p.2)
+    parts_come 0 f kind id content s (kind ++ (id ++ content)) payload e (come f kind id content p.0.stands.spelled p.1 p.2)
 so_far spot AtEnd s payload p e h =
     ap₂ (front_parts 0) e (no_payload s payload h (ap content_come e ∙ drop-nil (slice_index [] 1 + id_given (slice_index [] 0) [])))
 

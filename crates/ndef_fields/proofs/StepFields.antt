@@ -24,7 +24,7 @@ use Rattle.ndef_fields.specs.declared.step_fields.StepFields.{StepFields}
 use Rattle.ndef_fields.specs.Fronts.{content_come, front_parts, inner_come, kind_begun, kind_come, tnf_come}
 use Rattle.ndef_fields.specs.Lasts.{kind_there}
 use Rattle.ndef_fields.specs.Parts.{Part, joined, placed, reported}
-use Rattle.ndef_fields.specs.Payloads.{outer_stage, stage_of}
+use Rattle.ndef_fields.specs.Payloads.{stage_of}
 use Rattle.ndef_fields.specs.Stages.{stage_parts, stage_rank}
 use Rattle.ndef_fields.specs.Walks.{HasRoom, IsInsideStep, IsOuterInside, IsPart, IsSound, fields_left, head_left, head_name, head_octets, inner_in, inside_by, inside_parts, outer_come, outer_in, parts_along, parts_by, payload_parts, stage_by, step_parts, step_rank, walk_parts}
 use Rattle.ndef_fields.proofs.Filled.{Anywhere, Fill, fill_append, fill_front, fill_leaf, fill_one, joined_both, leaf_staged, reported_joined}
@@ -41,14 +41,13 @@ unfolding outer_in
 nothing_outside = refl
 
 -- ---- payloads
-none_after : (parts : List Part) → parts ≡ parts ++ inner_in SmartPoster []
-none_after parts = sym (append-nil parts) ∙ ap (λ x. parts ++ x) (sym (nothing_inside SmartPoster))
-
 -- the fields of a payload, and the message that it holds
 split : (table : Option Table) (kind : Kind) (s : List ℕ)
     → parts_by table kind s ≡ stage_parts 0 (stage_by table kind) (inside_by table s) ++ inner_in (unwrap_or table SmartPoster) (inner_by table s)
 split (Some table) kind s = refl
-split None kind s = leaf_staged 0 (outer_kind kind) s ∙ none_after (stage_parts 0 (outer_stage kind) s)
+split None kind s =
+    let parts = stage_parts 0 (stage_of (outer_kind kind)) s in
+    leaf_staged 0 (outer_kind kind) s ∙ sym (append-nil parts) ∙ ap (λ x. parts ++ x) (sym (nothing_inside SmartPoster))
 
 -- all octets of a payload are of the one or the other
 octets_are : (table : Option Table) (s : List ℕ) → inside_by table s ++ inner_by table s ≡ s
@@ -58,12 +57,6 @@ octets_are None s = append-nil s
 inside_fill : (table : Option Table) (kind : Kind) (s : List ℕ) → Fill Anywhere (inside_by table s) (stage_parts 0 (stage_by table kind) (inside_by table s))
 inside_fill (Some table) kind s = fill_one Anywhere 0 tt names.Version (take (version_length table) s)
 inside_fill None kind s = subst (Fill Anywhere s) (leaf_staged 0 (outer_kind kind) s) (fill_leaf Anywhere 0 tt (outer_kind kind) s)
-
-pub contents_split : (kind : Kind) (s : List ℕ) → payload_parts kind s ≡ stage_parts 0 (stage_by (table_in kind) kind) (inside_by (table_in kind) s) ++ inner_in (table_of kind) (inner_by (table_in kind) s)
-contents_split kind s = split (table_in kind) kind s
-
-pub contents_joined : (kind : Kind) (s : List ℕ) → joined (stage_parts 0 (stage_by (table_in kind) kind) (inside_by (table_in kind) s)) ++ inner_by (table_in kind) s ≡ s
-contents_joined kind s = ap (λ x. x ++ inner_by (table_in kind) s) (inside_fill (table_in kind) kind s).octets_are ∙ octets_are (table_in kind) s
 
 small_leaf : (kind : Kind) → stage_rank (stage_of kind) ≤ 803
 small_leaf kinds.Text = omega arith
@@ -178,7 +171,7 @@ module _ (w : Walk) (s : StepFields) (step : WalkStep) (next : Walk) (t : StepFi
       let inside : inside_parts 0 t.inside ≡ stage_parts 0 (stage_by (table_in kind) kind) (inside_by (table_in kind) payload) = ap₂ (stage_parts 0) o.stage o.octets in
       let inner : inner_in next.table next.inner.now ≡ inner_in (table_of kind) (inner_by (table_in kind) payload) = ap₂ inner_in q.table q.inner in
       let own : outer_come octets ≡ inside_parts 0 t.inside ++ inner_in next.table next.inner.now =
-      ap₂ payload_parts (sym begun) (sym h.payload) ∙ contents_split kind payload ∙ sym (ap₂ (λ x y. x ++ y) inside inner) in
+      ap₂ payload_parts (sym begun) (sym h.payload) ∙ split (table_in kind) kind payload ∙ sym (ap₂ (λ x y. x ++ y) inside inner) in
       let mine = begun_parts 0 step t i q.depth h in
       -- the octets of its own fields
       let more = reported 0 names.Payload next.inner.now in
@@ -254,7 +247,7 @@ pub payload_left : (w : Walk) (t : StepFields) (kind : Kind) (payload : List ℕ
 payload_left w t kind payload i inner outer table at places =
     let mine = payload_step kind payload t i in
     let n = ap (λ x. length (joined x)) mine in
-    let whole = ap length (contents_joined kind payload) in
+    let whole = ap length (ap (λ x. x ++ inner_by (table_in kind) payload) (inside_fill (table_in kind) kind payload).octets_are ∙ octets_are (table_in kind) payload) in
     let cut = length-append (joined (stage_parts 0 (stage_by (table_in kind) kind) (inside_by (table_in kind) payload))) (inner_by (table_in kind) payload) in
     let rest = ap length inner in
     let a = i.at in
@@ -264,7 +257,7 @@ payload_left w t kind payload i inner outer table at places =
           (
           ap₂ (λ x y. x ++ (inner_in w.table w.inner.now ++ y)) mine (ap outer_in outer ∙ nothing_outside)
           ∙ ap (λ x. stage_parts 0 (stage_by (table_in kind) kind) (inside_by (table_in kind) payload) ++ x) (append-nil (inner_in w.table w.inner.now) ∙ ap₂ inner_in table inner)
-          ∙ sym (contents_split kind payload)
+          ∙ sym (split (table_in kind) kind payload)
           );
       sound = record { places = places; after = omega (arith, n, whole, cut, rest, at, a) };
     }

@@ -167,12 +167,8 @@ one_more s w t =
     }
 
 module _ (begin : PiecesBegin) where
-  split_in : (n : ℕ) (s : List ℕ) → length s ≤ n → AreOctets s → Split s
-  split_in zero s l all =
-      elim (cases_lt (length s) (size_come s)) as (λ v. Split s) [
-        | inl k ↦ none_whole s k
-        | inr k ↦ absurd (let n = shorter s (begin s all k) in omega (arith, l, n))
-      ]
+  split_in : (n : ℕ) (s : List ℕ) → length s < n → AreOctets s → Split s
+  split_in zero s l all = absurd (omega (arith, l))
   split_in (suc n) s l all =
       elim (cases_lt (length s) (size_come s)) as (λ v. Split s) [
         | inl k ↦ none_whole s k
@@ -184,7 +180,7 @@ module _ (begin : PiecesBegin) where
       ]
 
   pub split_of : (s : List ℕ) → AreOctets s → Split s
-  split_of s all = split_in (length s) s (omega arith) all
+  split_of s all = split_in (length s + 1) s (omega arith) all
 
   no_inner : (table : Table) → inner_come table [] ≡ []
   no_inner table = nothing Anywhere (inner_come table []) (fill_leaf Anywhere 1 tt (kind_in table (tnf_come []) []) [])

@@ -7,8 +7,6 @@ use Rattle.ndef_format.specs.Nested.{kind_in, table_in}
 use Rattle.ndef_format.specs.declared.kind.Kind.{Kind}
 use Rattle.ndef_format.specs.declared.table.Table.{Table}
 use Rattle.ndef_format.specs.declared.tnf.Tnf.{Tnf}
-use Rattle.ndef_fields.specs.declared.front.HeadOctets.{HeadOctets}
-use Rattle.ndef_fields.specs.declared.front.PieceFront.{PieceFront}
 use Rattle.ndef_fields.specs.declared.name.FieldName.TheVariants as names
 pub use Rattle.ndef_piece.specs.Come.{content_come, id_come, id_length_come, kind_come, payload_length_come}
 use Rattle.ndef_fields.specs.Lasts.{kind_there}
@@ -32,21 +30,6 @@ front_parts depth s payload =
     ++ (reported depth names.PayloadLength (payload_length_come s)
     ++ (reported depth names.IdLength (id_length_come s)
     ++ (reported depth names.Kind (kind_come s) ++ (reported depth names.Id (id_come s) ++ payload)))))
-
--- the octets of the fields before its payload
-pub record IsHeadOctets (s : List ℕ) (head : HeadOctets) : Type 0 where
-  pub header : head.header.now ≡ take 1 s
-  pub kind_length : head.kind_length.now ≡ take 1 (drop 1 s)
-  pub payload_length : head.payload_length.now ≡ payload_length_come s
-  pub id_length : head.id_length.now ≡ id_length_come s
-  pub kind : head.kind.now ≡ kind_come s
-  pub id : head.id.now ≡ id_come s
-
--- these, its header octet, and what has come of its payload
-pub record IsPieceFront (s : List ℕ) (front : PieceFront) : Type 0 where
-  pub header : front.header ≡ slice_index s 0
-  pub head : IsHeadOctets s front.head
-  pub content : front.content.now ≡ content_come s
 
 -- ---- a front of a payload
 

@@ -16,7 +16,6 @@ use Rattle.ndef_format.specs.Positions.{Field, InPayload, IsAt}
 use Rattle.ndef_fields.specs.declared.last.ByteField.{ByteField}
 use Rattle.ndef_fields.specs.declared.name.FieldName.{FieldName}
 use Rattle.ndef_fields.specs.declared.name.FieldName.TheVariants as names
-use Rattle.ndef_fields.specs.declared.field.Field.{Field as Reported}
 use Rattle.ndef_fields.specs.Parts.{Part}
 use Rattle.ndef_fields.specs.Payloads.{leaf_parts}
 use Rattle.ndef_format.specs.Kinds.{outer_kind}
@@ -37,17 +36,6 @@ abbrev pub EndsIn : List Part → FieldName → Type 0
 EndsIn [] name = ⊥
 EndsIn (part ∷ []) name = name ≡ part.name
 EndsIn (part ∷ next ∷ parts) name = EndsIn (next ∷ parts) name
-
--- the last of some parts is this field
-abbrev pub EndsInField : List Part → ByteField → Type 0
-EndsInField [] byte = ⊥
-EndsInField (part ∷ []) byte = (byte.depth ≡ part.depth) × (byte.name ≡ part.name)
-EndsInField (part ∷ next ∷ parts) byte = EndsInField (next ∷ parts) byte
-
--- the last of these fields; this one where there are none
-abbrev pub last_from : ByteField → List Reported → ByteField
-last_from byte [] = byte
-last_from byte (f ∷ fields) = last_from (record { depth = f.depth; name = f.name }) fields
 
 -- RTD Smart Poster 1.0 and Connection Handover 1.2: the name of the octet that is in this field
 -- of a nested message

@@ -1,32 +1,21 @@
 -- The fields of a front of a message are those of the definition on which the reasons of refusals
 -- rest.
-use Rattle.std.specs.Prelude.{◌≡◌, ℕ, List, [], ◌∷◌, ◌++◌, is_some}
-use Rattle.ndef_format.specs.Records.{HeadFields, Piece, Run, header_octet, id_length_octets, payload_length_octets}
+use Rattle.std.specs.Prelude.{◌≡◌, ℕ, List, [], ◌++◌}
+use Rattle.ndef_format.specs.Records.{Piece, Run}
 use Rattle.ndef_format.specs.Limits.{LimitValues}
 use Rattle.ndef_format.specs.Messages.{all_pieces}
 use Rattle.ndef_format.specs.Positions.{Field, AtEnd, InHead, InId, InPayload, InType, IsAt, octets_so_far}
-use Rattle.ndef_fields.specs.declared.name.FieldName.TheVariants as names
 use Rattle.ndef_fields.specs.Fronts.{AreFrontParts, front_parts}
-use Rattle.ndef_fields.specs.Parts.{Part, reported}
-
--- NDEF 1.0, record layout: the parts of the head of a piece, and then these
-abbrev pub head_parts : HeadFields → List Part → List Part
-head_parts head more =
-    reported 0 names.Header
-    (header_octet head.first head.last head.chunked head.short (is_some head.id_length) head.tnf ∷ [])
-    ++ (reported 0 names.KindLength (head.kind_length ∷ [])
-    ++ (reported 0 names.PayloadLength (payload_length_octets head.short head.payload_length)
-    ++ (reported 0 names.IdLength (id_length_octets head.id_length) ++ more)))
+use Rattle.ndef_fields.specs.Messages.{head_parts}
+use Rattle.ndef_fields.specs.Parts.{Part}
 
 -- NDEF 1.0, record layout: the parts of a piece so far, if the next octet is in
 -- this field; `payload` are those of its payload
 abbrev pub parts_so_far : Field → (payload : List Part) → List Part
 parts_so_far (InHead front) payload = front_parts 0 front []
-parts_so_far (InType head name) payload = head_parts head (reported 0 names.Kind name)
-parts_so_far (InId head name id) payload =
-    head_parts head (reported 0 names.Kind name ++ reported 0 names.Id id)
-parts_so_far (InPayload head name id content) payload =
-    head_parts head (reported 0 names.Kind name ++ (reported 0 names.Id id ++ payload))
+parts_so_far (InType head name) payload = head_parts 0 head name [] []
+parts_so_far (InId head name id) payload = head_parts 0 head name id []
+parts_so_far (InPayload head name id content) payload = head_parts 0 head name id payload
 parts_so_far AtEnd payload = []
 
 -- NDEF 1.0, messages: the parts are those of these pieces, and of what has come of one more

@@ -17,7 +17,7 @@ use Rattle.ndef_fields.specs.declared.stage.Stage.TheVariants as stages
 use Rattle.ndef_fields.specs.declared.step_fields.StepFields.{StepFields}
 use Rattle.ndef_fields.specs.Fronts.{content_come, front_parts, inner_come, kind_begun}
 use Rattle.ndef_fields.specs.Parts.{Part, joined, placed, reported}
-use Rattle.ndef_fields.specs.Payloads.{leaf_parts, outer_stage}
+use Rattle.ndef_fields.specs.Payloads.{leaf_parts, stage_of}
 use Rattle.ndef_fields.specs.Stages.{stage_parts, stage_rank}
 
 -- ---- messages
@@ -55,7 +55,7 @@ outer_in s = parts_along 0 outer_come (fronts s)
 -- the field with which a payload of a kind begins, which holds this message or none
 abbrev pub stage_by : Option Table → Kind → Stage
 stage_by (Some table) kind = stages.Whole names.Version
-stage_by None kind = outer_stage kind
+stage_by None kind = stage_of (outer_kind kind)
 
 -- the octets of the fields before this message
 abbrev pub inside_by : Option Table → List ℕ → List ℕ

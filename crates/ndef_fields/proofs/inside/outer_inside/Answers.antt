@@ -1,6 +1,7 @@
 use Rattle.std.proofs.Common.{◌≡◌, sym, ◌∙◌, ap, arith, Some, None}
 use Rattle.ndef_format.specs.Nested.{table_in}
 use Rattle.ndef_piece.specs.Steps.{inner_by}
+use Rattle.ndef_fields.specs.Payloads.{stage_of}
 use Rattle.ndef_fields.specs.Walks.{inside_by, stage_by}
 use Rattle.ndef_fields.proofs.StepFields.{cut_front}
 use Rattle.ndef_fields.proofs.inside.outer_inside.Goals as goal
@@ -22,4 +23,4 @@ pub returns-in-None : goal.returns-in-None
 returns-in-None c =
     let kind = c.args.kind in
     let e : None ≡ table_in kind = sym c.in-None.is ∙ c.table.ensures in
-    record { stage = c.outside.ensures ∙ ap (λ x. stage_by x kind) e; octets = ap (λ x. inside_by x c.args.payload.now) e }
+    record { stage = c.of.ensures ∙ ap stage_of c.outer.ensures ∙ ap (λ x. stage_by x kind) e; octets = ap (λ x. inside_by x c.args.payload.now) e }

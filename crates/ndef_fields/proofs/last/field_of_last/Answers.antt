@@ -1,7 +1,6 @@
 use Rattle.std.proofs.Common.{rules, ◌≡◌, [], ◌∙◌, ap, sym}
 use Rattle.ndef_fields.specs.declared.name.FieldName.TheVariants as names
-use Rattle.ndef_fields.specs.Lasts.{last_from}
-use Rattle.ndef_fields.proofs.Lasts.{field_last}
+use Rattle.ndef_fields.proofs.Lasts.{field_last, last_from}
 use Rattle.ndef_fields.proofs.last.field_of_last.Goals as goal
 
 pub returns : goal.returns

@@ -1,8 +1,8 @@
 use Rattle.std.proofs.Common.{◌≡◌, length}
 use Rattle.ndef_fields.specs.declared.name.FieldName.TheVariants as names
-use Rattle.ndef_fields.specs.Lasts.{last_from}
 use Rattle.ndef_fields.specs.Parts.{placed}
 use Rattle.ndef_fields.specs.Walks.{outer_in}
+use Rattle.ndef_fields.proofs.Lasts.{last_from}
 use Rattle.ndef_fields.proofs.last.field_of_last.Given as goal
 
 abbrev pub invariant-loop-field : goal.invariant-loop-field
