@@ -184,7 +184,7 @@ enum ndef_hint_number {
     NDEF_HINT_BASE64 = 12,      /* the bytes may be base64 */
     NDEF_HINT_CODE = 13,        /* the identifier code of a URI may be missing */
     NDEF_HINT_STANDARD = 14,    /* a reader of the standard profile accepts the bytes */
-    NDEF_HINT_INTERRUPTED = 15, /* reserved areas of a tag may lie inside the message of an NDEF message TLV */
+    NDEF_HINT_INTERRUPTED = 15, /* reserved areas of a tag may lie before the end of an NDEF message TLV */
     NDEF_HINT_UNFINISHED = 16   /* a Type 3 Tag is being written: its message is not whole yet */
 };
 

@@ -26,7 +26,7 @@ const (
 	HintStandard   HintKind = C.NDEF_HINT_STANDARD   // a reader of the standard profile accepts the bytes
 
 	// (the library of release 1.0.0 has no names for these)
-	HintInterrupted HintKind = 15 // reserved areas of a tag may lie inside the message of an NDEF message TLV
+	HintInterrupted HintKind = 15 // reserved areas of a tag may lie before the end of an NDEF message TLV
 	HintUnfinished  HintKind = 16 // a Type 3 Tag is being written: its message is not whole yet
 )
 
@@ -89,7 +89,7 @@ func (found *FoundHint) String() string {
 		const text = "The bytes may begin with what surrounds a message on a tag; a message begins at byte %d: read `bytes[%d:]`."
 		return fmt.Sprintf(text, found.Place, found.Place)
 	case HintInterrupted:
-		const text = "A message may begin at byte %d, in an NDEF TLV of a tag, but reserved areas may lie in it: read the tag with a program that skips them."
+		const text = "A message may begin at byte %d, in an NDEF TLV of a tag, but reserved areas may lie before its end: use a reader that skips them."
 		return fmt.Sprintf(text, found.Place)
 	default:
 		return hintTexts[found.Kind]

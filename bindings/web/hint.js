@@ -41,7 +41,7 @@ export function hintText(found, words) {
     if (hint === HINT.MESSAGE)
         return `The bytes may begin with what surrounds a message on a tag; a message begins at byte ${at}${words.part(...places)}.`;
     if (hint === HINT.INTERRUPTED)
-        return `A message may begin at byte ${at}, in an NDEF TLV of a tag, but reserved areas may lie in it: read the tag with a program that skips them.`;
+        return `A message may begin at byte ${at}, in an NDEF TLV of a tag, but reserved areas may lie before its end: use a reader that skips them.`;
     if (hint === HINT.BASE64) return `This may be base64, not the bytes that it spells: decode it first${words.base64}.`;
     return hint === HINT.STANDARD ? `The standard profile reads this: ${words.standard}.` : TEXTS[hint] ?? "Only a newer library knows this hint.";
 }

@@ -57,7 +57,7 @@ def interrupted(scene, limits, length, at):
     given, starts = scene.given, [begins for begins in blocks_begin(scene.given) if message_block(scene.given, begins) == (at, length)]
     has_control = any(tag in CONTROLS and count == 3 for begins in starts for tag, _, count in blocks(given, begins))
     is_dynamic = any(12 <= begins < 16 and given[begins - 2] >= 0x0f for begins in starts)
-    return scene.at == 0 and length > 0 and given[at] & 0x80 and (has_control or is_dynamic)
+    return scene.at == 0 and (length == 0 or given[at] & 0x80) and (has_control or is_dynamic)
 
 
 def after_attributes(scene, limits, length, at, *command):
@@ -107,8 +107,8 @@ HINTS = [(name, re.compile(words), is_true) for name, words, is_true in (
     ('block', rf'A message of length (\d+) may begin at byte (\d+), in an NDEF TLV of a tag: {COMMAND}', in_block),
     ('attributes', rf'A message of length (\d+) may begin at byte (\d+), after the attribute block of a Type 3 Tag: {COMMAND}', after_attributes),
     ('file', rf'A message of length (\d+) may begin at byte (\d+), after its length, as in a file of a Type 4 Tag: {COMMAND}', in_file),
-    ('interrupted', r'A message of length (\d+) may begin at byte (\d+), in an NDEF TLV of a tag, but reserved areas may lie in it: '
-                    r'read the tag with a program that skips them\.', interrupted),
+    ('interrupted', r'A message of length (\d+) may begin at byte (\d+), in an NDEF TLV of a tag, but reserved areas may lie before its end: '
+                    r'use a reader that skips them\.', interrupted),
     ('unfinished', r'This Type 3 Tag is being written: its attribute block says that the message is not whole yet\.', unfinished),
     ('empty', r'This tag is empty: it has no bytes for a message\.', empty_tag),
     ('near', r'The bytes may begin with what surrounds a message on a tag; a message begins at byte (\d+)\.', message_at),
@@ -141,19 +141,12 @@ def is_whole_file(given):
     return any(number_at(given, 0, at) == len(given) - at for at in (2, 4))
 
 
-def is_longer_file(given):
-    """Whether the bytes are more than such a file has: a hint may take them for one where areas hide the block of the message."""
-    return any(0 < number_at(given, 0, at) <= len(given) - at and given[at] & 0x80 for at in (2, 4))
-
-
 def fault_on_tag(hint, tag):
     """What is wrong with a hint on a tag of tags.py: it isn't the one that is wanted, its command gives other bytes than the message, or it says that a
     tag is empty which isn't. None where nothing is. Of bytes that end within the message the command gives those that there are."""
     name, numbers = named(hint) if hint else (None, [])
     if tag.wanted and name != tag.wanted:
         return f'{name} instead of {tag.wanted}'
-    if name == 'file' and not tag.wanted and is_longer_file(tag.given):
-        return None
     if name in ('block', 'attributes', 'file'):
         length, at, after, count = numbers
         cut = tag.given[after - 1:after - 1 + count]

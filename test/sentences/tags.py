@@ -11,6 +11,8 @@ RESERVED_BLOCKS = range(104, 128)
 # The bytes of user memory of tags of Type 2 that are sold, and others.
 SIZES_2, SIZES_1, SIZES_5 = (48, 128, 144, 504, 888, 256, 1904, 2032), (128, 256, 512, 1024, 2048), (64, 256, 504, 1024, 2040, 2048, 4096)
 WRITING = 0x0f
+# The first octet of a capability container; no other seems to begin in what is laid out.
+CONTAINER = 0xe1
 
 
 class Full(Exception):
@@ -61,7 +63,7 @@ class Memory:
         area = range((page << exponent) + byte, (page << exponent) + byte + length)
         for place, octet in zip(places, (page << 4 | byte, size, self.random.randrange(16) << 4 | exponent)):
             self.octets[place] = octet
-        if area[0] > places[-1]:
+        if area[0] > places[-1] and (page << 4 | byte) != CONTAINER:
             self.areas.append(area)
             self.reserved.update(area[:5000])
         else:
@@ -122,11 +124,11 @@ class Maker:
         return Tag(what, given, message, wanted)
 
     def type_1(self):
-        """A Type 1 Tag: its UID, which looks like no message, the capability container at 8, the blocks from 12 on; the answer to RALL begins with the header
-        ROM."""
+        """A Type 1 Tag: its UID, which looks like no message and no TLV, the capability container at 8, the blocks from 12 on; the answer to RALL begins
+        with the header ROM."""
         is_dynamic = self.chance() < 0.7
         size = self.pick(SIZES_1) if is_dynamic else 120
-        uid = bytes([self.random.randrange(0x80)]) + self.octets(7)
+        uid = bytes([self.random.randrange(4, 0x80)]) + self.octets(7)
         head = uid + bytes([0xe1, self.pick((0x10, 0x11, 0x12)), size // 8 - 1, 0])
         octets = head + self.octets(size - len(head))
         memory = Memory(self.random, octets, 12, size if is_dynamic else 104, RESERVED_BLOCKS if is_dynamic else ())

@@ -239,7 +239,7 @@ class Oracle:
         if found.hint == 4:
             return [f'The bytes may begin with what surrounds a message on a tag; a message begins at byte {found.at}', [found.at]]
         if found.hint == 15:
-            return [f'A message may begin at byte {found.at}, in an NDEF TLV of a tag, but reserved areas may lie in it', []]
+            return [f'A message may begin at byte {found.at}, in an NDEF TLV of a tag, but reserved areas may lie before its end', []]
         return [self.TEXTS[found.hint], []]
 
     def warnings(self, row):

@@ -24,7 +24,7 @@ class HintKind(enum.IntEnum):
     BASE64: they may be base64.
     CODE: the identifier code of a URI may be missing.
     STANDARD: a reader of the standard profile accepts the octets.
-    INTERRUPTED: reserved areas of a tag may lie inside the message of an NDEF message TLV.
+    INTERRUPTED: reserved areas of a tag may lie before the end of an NDEF message TLV.
     UNFINISHED: a Type 3 Tag is being written: its message is not whole yet.
     """
 
@@ -67,7 +67,7 @@ _TEXTS: Dict[int, str] = {
     HintKind.BASE64: 'This may be base64, not the bytes that it spells: decode it first, as `base64.b64decode` does.',
     HintKind.CODE: '68 (hexadecimal) is the letter h: was the identifier code left out?',
     HintKind.STANDARD: "The standard profile reads this: call `fields(octets, profile='standard')`.",
-    HintKind.INTERRUPTED: 'A message may begin at byte {place}, in an NDEF TLV of a tag, but reserved areas may lie in it: read the tag with a program that skips them.',
+    HintKind.INTERRUPTED: 'A message may begin at byte {place}, in an NDEF TLV of a tag, but reserved areas may lie before its end: use a reader that skips them.',
     HintKind.UNFINISHED: 'This Type 3 Tag is being written: its attribute block says that the message is not whole yet.',
 }
 

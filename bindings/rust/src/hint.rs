@@ -47,7 +47,7 @@ kinds! {
     12 Base64 "The bytes may be base64.",
     13 Code "The identifier code of a URI may be missing.",
     14 Standard "A reader of the standard profile accepts the bytes.",
-    15 Interrupted "Reserved areas of a tag may lie inside the message of an NDEF message TLV.",
+    15 Interrupted "Reserved areas of a tag may lie before the end of an NDEF message TLV.",
     16 Unfinished "A Type 3 Tag is being written: its message is not whole yet.",
 }
 
@@ -137,7 +137,7 @@ impl fmt::Display for FoundHint {
             }
             HintKind::Interrupted => {
                 write!(to, "A message may begin at byte {}, in an NDEF TLV of a tag, but ", self.place)?;
-                return to.write_str("reserved areas may lie in it: read the tag with a program that skips them.");
+                return to.write_str("reserved areas may lie before its end: use a reader that skips them.");
             }
             HintKind::Unfinished => {
                 "This Type 3 Tag is being written: its attribute block says that the message is not whole yet."

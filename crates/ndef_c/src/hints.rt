@@ -41,7 +41,7 @@ pub const HINT_BASE64: u32 = 12;
 pub const HINT_CODE: u32 = 13;
 /// A reader of the standard profile accepts the bytes.
 pub const HINT_STANDARD: u32 = 14;
-/// Reserved areas of a tag may lie inside the message of an NDEF message TLV.
+/// Reserved areas of a tag may lie before the end of an NDEF message TLV.
 pub const HINT_INTERRUPTED: u32 = 15;
 /// A Type 3 Tag is being written: its message is not whole yet.
 pub const HINT_UNFINISHED: u32 = 16;

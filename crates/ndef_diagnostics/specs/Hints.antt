@@ -116,7 +116,7 @@ abbrev pub interrupted_text : Found → List ℕ
 interrupted_text found =
     codes "A message of length " ++ decimal found.length ++ codes " may begin at byte " ++ decimal found.at
     ++ codes
-    ", in an NDEF TLV of a tag, but reserved areas may lie in it: read the tag with a program that skips them."
+    ", in an NDEF TLV of a tag, but reserved areas may lie before its end: use a reader that skips them."
 
 -- the sentence for what a tag that states a length has for a message
 abbrev pub stated_text : Found → List ℕ

@@ -160,16 +160,16 @@ is_begun octet = nat_le 0x80 octet
 abbrev pub is_empty : List ℕ → (place : ℕ) → Bool
 is_empty bytes place = (value_length bytes place == 0) && nat_le (value_at bytes place) (length bytes)
 
--- NFC Forum, Type 2 Tag, NDEF message TLV: the bytes around a message of this length, which reserved areas may cut
-abbrev pub block_wrapping : (cut : Bool) → (length : ℕ) → Wrapping
-block_wrapping cut length = if cut && nat_lt 0 length then Interrupted else Block
+-- NFC Forum, Type 2 Tag, NDEF message TLV: the bytes around a message in a block, which reserved areas may cut
+abbrev pub block_wrapping : (cut : Bool) → Wrapping
+block_wrapping cut = if cut then Interrupted else Block
 
 -- NFC Forum, Type 2 Tag, NDEF message TLV: the bytes that the block at a place has for a message, which may be none
 abbrev pub in_block : (cut : Bool) → List ℕ → (place : ℕ) → Option Found
 in_block cut bytes place =
     if is_begun (slice_index bytes (value_at bytes place)) || is_empty bytes place
     then Some (record {
-      wrapping = block_wrapping cut (value_length bytes place);
+      wrapping = block_wrapping cut;
       at = value_at bytes place;
       length = value_length bytes place;
     })
@@ -221,9 +221,19 @@ abbrev pub IsFirstBlock : List ℕ → (start : ℕ) → Option ℕ → Type 0
 IsFirstBlock bytes start (Some place) = IsMessageBlock bytes start place
 IsFirstBlock bytes start None = (place : ℕ) → ¬ IsMessageBlock bytes start place
 
+-- NFC Forum, Type 1 Tag and Type 2 Tag, memory structure: bytes that begin with a control TLV, or with two NULL TLVs
+-- and one, or that have a capability container where these tags have it
+abbrev pub is_memory : List ℕ → Bool
+is_memory bytes =
+    is_control bytes 0 || is_control bytes 2 || is_container bytes 8 || is_container bytes 10 || is_container bytes 12
+
+-- NFC Forum, Type 4 Tag, NDEF file: what a file that is longer than it says has for a message; a tag's memory is none
+abbrev pub in_longer_file : List ℕ → Option Found
+in_longer_file bytes = if is_memory bytes then None else in_file false bytes
+
 -- NFC Forum, Type 3 Tag and Type 4 Tag: what a tag's memory, or one of its files, has for a message without a block
 abbrev pub in_other : List ℕ → Option Found
-in_other bytes = if has_attributes bytes then Some (after_attributes bytes) else in_file false bytes
+in_other bytes = if has_attributes bytes then Some (after_attributes bytes) else in_longer_file bytes
 
 -- NFC Forum, Type 1 to Type 5 Tag: the bytes that it has for a message where no file of them is whole, by that block
 abbrev pub in_blocks : Option ℕ → (cut : Bool) → List ℕ → Option Found

@@ -140,7 +140,7 @@ fn interrupted_sentence(found: Found) -> Sentence
     push_both(
         &mut sentence,
         u64::from(found.at),
-        b", in an NDEF TLV of a tag, but reserved areas may lie in it: read the tag with a program that skips them.",
+        b", in an NDEF TLV of a tag, but reserved areas may lie before its end: use a reader that skips them.",
     );
     sentence
 }

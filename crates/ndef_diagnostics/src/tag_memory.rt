@@ -1,12 +1,14 @@
 //! The place of a message in the memory of a tag.
 ghost use Rattle.std.specs.Prelude.{◌≡◌, ◌<◌, ◌≤◌, ◌+◌, ◌^◌, ◌↔◌, IfSome, IsTrue, length, sum};
-ghost use Rattle.ndef_diagnostics.specs.TagMemory.{Finds, HasArea, IsCut, IsFirstBlock, IsFirstContainer, Reaches};
-ghost use Rattle.ndef_diagnostics.specs.TagMemory.{Stops, TellsCut, after_attributes, area_address, area_length};
-ghost use Rattle.ndef_diagnostics.specs.TagMemory.{area_size, attribute_wrapping, block_wrapping, blocks_at, file_at};
-ghost use Rattle.ndef_diagnostics.specs.TagMemory.{fits, found_by, four_octets, has_attributes, has_reserved_block};
-ghost use Rattle.ndef_diagnostics.specs.TagMemory.{in_block, in_blocks, in_file, in_other, is_attribute_version};
-ghost use Rattle.ndef_diagnostics.specs.TagMemory.{is_begun, is_container, is_control, is_dynamic, is_empty, is_met};
-ghost use Rattle.ndef_diagnostics.specs.TagMemory.{is_passed, is_version, meets, next_block, page_size, states_area};
+ghost use Rattle.ndef_diagnostics.specs.TagMemory.{Finds, HasArea, IsCut, IsFirstBlock, IsFirstContainer};
+ghost use Rattle.ndef_diagnostics.specs.TagMemory.{Reaches, Stops, TellsCut, after_attributes, area_address};
+ghost use Rattle.ndef_diagnostics.specs.TagMemory.{area_length, area_size, attribute_wrapping};
+ghost use Rattle.ndef_diagnostics.specs.TagMemory.{block_wrapping, blocks_at, file_at, fits, found_by};
+ghost use Rattle.ndef_diagnostics.specs.TagMemory.{four_octets, has_attributes, has_reserved_block, in_block};
+ghost use Rattle.ndef_diagnostics.specs.TagMemory.{in_blocks, in_file, in_longer_file, in_other};
+ghost use Rattle.ndef_diagnostics.specs.TagMemory.{is_attribute_version, is_begun, is_container, is_control};
+ghost use Rattle.ndef_diagnostics.specs.TagMemory.{is_dynamic, is_empty, is_memory, is_met, is_passed};
+ghost use Rattle.ndef_diagnostics.specs.TagMemory.{is_version, meets, next_block, page_size, states_area};
 ghost use Rattle.ndef_diagnostics.specs.TagMemory.{two_octets, value_at, value_length};
 
 use crate::begun::{front_of, octet_at};
@@ -23,7 +25,7 @@ pub enum Wrapping {
     Attributes,
     /// The file that begins with its length (NFC Forum, Type 4 Tag).
     File,
-    /// An NDEF message TLV, of a tag whose reserved areas may lie inside the message, so that no command gives it
+    /// An NDEF message TLV, of a tag whose reserved areas may lie before the message's end, so that no command gives it
     /// (NFC Forum, Type 1 Tag and Type 2 Tag).
     Interrupted,
     /// The attribute information block before it, of a tag that is being written (NFC Forum, Type 3 Tag).
@@ -309,11 +311,11 @@ fn is_empty(bytes: &[u8], place: usize) -> bool
     value_length(bytes, place) == 0 && value_at(bytes, place) <= bytes.len()
 }
 
-/// Returns the bytes around a message of this length in a block, which reserved areas may cut.
-fn block_wrapping(cut: bool, length: u32) -> Wrapping
-    ensures { result ≡ block_wrapping cut length }
+/// Returns the bytes around a message in a block, which reserved areas may cut.
+fn block_wrapping(cut: bool) -> Wrapping
+    ensures { result ≡ block_wrapping cut }
 {
-    if cut && 0 < length {
+    if cut {
         Wrapping::Interrupted
     } else {
         Wrapping::Block
@@ -329,7 +331,7 @@ fn in_block(cut: bool, bytes: &[u8], place: usize) -> Option<Found>
     let length = value_length(bytes, place);
     if is_begun(octet_at(bytes, at)) || is_empty(bytes, place) {
         Some(Found {
-            wrapping: block_wrapping(cut, length),
+            wrapping: block_wrapping(cut),
             at: at as u32,
             length,
         })
@@ -420,6 +422,29 @@ fn in_file(whole: bool, bytes: &[u8]) -> Option<Found>
     file_at(whole, bytes, 2, two_octets(bytes, 0)).or(file_at(whole, bytes, 4, four_octets(bytes)))
 }
 
+/// Whether the bytes begin with a control TLV, or with two NULL TLVs and one, or have a capability container where a
+/// Type 1 Tag or a Type 2 Tag has it.
+fn is_memory(bytes: &[u8]) -> bool
+    ensures { result ≡ is_memory bytes.now }
+{
+    is_control(bytes, 0)
+        || is_control(bytes, 2)
+        || is_container(bytes, 8)
+        || is_container(bytes, 10)
+        || is_container(bytes, 12)
+}
+
+/// Returns the bytes that a file which is longer than it says has for a message. The memory of a tag is no file.
+fn in_longer_file(bytes: &[u8]) -> Option<Found>
+    ensures { result ≡ in_longer_file bytes.now }
+{
+    if is_memory(bytes) {
+        None
+    } else {
+        in_file(false, bytes)
+    }
+}
+
 /// Returns the bytes for a message in these bytes, if they have no block.
 fn in_other(bytes: &[u8]) -> Option<Found>
     ensures { result ≡ in_other bytes.now }
@@ -427,7 +452,7 @@ fn in_other(bytes: &[u8]) -> Option<Found>
     if has_attributes(bytes) {
         Some(after_attributes(bytes))
     } else {
-        in_file(false, bytes)
+        in_longer_file(bytes)
     }
 }
 

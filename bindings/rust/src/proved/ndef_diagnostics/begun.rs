@@ -1,7 +1,6 @@
 // Written by ports/erase of crates/ndef_diagnostics/src/begun.rt, which has the contracts: do not edit.
 //! A piece of a message, as far as it has come.
 
-use crate::proved::ndef_fields::piece_front;
 use crate::proved::ndef_format::header::{is_set, width, ID_THERE, SHORT};
 use crate::proved::ndef_format::Tnf;
 use crate::proved::ndef_piece::header_tnf;
@@ -41,8 +40,9 @@ fn spelled(short: bool, octets: &[u8]) -> u64 {
 
 /// PAYLOAD_LENGTH of a piece; 0 where octets of it are missing.
 pub(crate) fn payload_length(octets: &[u8]) -> u64 {
-    let short = is_set(SHORT, octet_at(octets, 0));
-    spelled(short, piece_front(octets).head.payload_length)
+    let header = octet_at(octets, 0);
+    let come = front_of(after(octets, 2), width(header));
+    spelled(is_set(SHORT, header), come)
 }
 
 /// The number of octets before TYPE.
@@ -79,6 +79,17 @@ pub(crate) fn is_kind_whole(octets: &[u8]) -> bool {
 /// The number of octets before the payload.
 pub(crate) fn before_payload(octets: &[u8]) -> usize {
     head_length(octets) + usize::from(octet_at(octets, 1)) + usize::from(id_length(octets))
+}
+
+/// The octets of TYPE that have come.
+pub(crate) fn kind_come(octets: &[u8]) -> &[u8] {
+    let rest = after(octets, head_length(octets));
+    front_of(rest, usize::from(octet_at(octets, 1)))
+}
+
+/// The octets of the payload that have come, and those after it.
+pub(crate) fn content_come(octets: &[u8]) -> &[u8] {
+    after(octets, before_payload(octets))
 }
 
 /// Whether the octets reach the payload.

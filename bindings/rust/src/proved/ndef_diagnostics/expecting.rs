@@ -2,13 +2,15 @@
 //! The expectation at a refusal, from the bytes up to the refused one.
 
 use crate::proved::ndef_diagnostics::begun::{
-    after, before_payload, bytes_before, head_length, id_length, is_kind_whole, is_length_whole, is_lengths_whole,
-    is_payload_begun, is_size_known, kind_to_come, least_record, octet_at, payload_length, through,
+    after, before_payload, bytes_before, content_come, head_length, id_length, is_kind_whole, is_length_whole,
+    is_lengths_whole, is_payload_begun, is_size_known, kind_come, kind_to_come, least_record, octet_at, payload_length,
+    through,
 };
 use crate::proved::ndef_diagnostics::length_mismatch::{length_mismatch, of_least};
 use crate::proved::ndef_diagnostics::poster_heads::of_uri;
+use crate::proved::ndef_diagnostics::wholes::whole_pieces;
 use crate::proved::ndef_diagnostics::{Expected, Whose};
-use crate::proved::ndef_fields::{piece_front, whole_pieces, FieldName};
+use crate::proved::ndef_fields::FieldName;
 use crate::proved::ndef_format::header::{is_set, width, CHUNK, END, ID_THERE};
 use crate::proved::ndef_format::{Reason, Refusal, Table};
 use crate::proved::ndef_lang::Kind;
@@ -56,11 +58,11 @@ fn missing_after(input: &[u8], in_chunks: bool, come: &[u8]) -> Expected {
 
 /// The kind of a payload of which a front has come; Other for a payload in several pieces.
 fn kind_begun(octets: &[u8]) -> Kind {
-    let front = piece_front(octets);
-    if is_set(CHUNK, front.header) {
+    let header = octet_at(octets, 0);
+    if is_set(CHUNK, header) {
         Kind::Other
     } else {
-        Kind::of(header_tnf(front.header), front.head.kind)
+        Kind::of(header_tnf(header), kind_come(octets))
     }
 }
 
@@ -93,7 +95,7 @@ fn outer_length_mismatch(kind: Kind, given: u64, octets: &[u8]) -> Expected {
 /// Returns the expectation after these octets of a piece of the message itself.
 fn in_message(octets: &[u8]) -> Expected {
     if is_kind_whole(octets) {
-        outer_length_mismatch(kind_begun(octets), payload_length(octets), piece_front(octets).content)
+        outer_length_mismatch(kind_begun(octets), payload_length(octets), content_come(octets))
     } else {
         Expected::Nothing
     }
@@ -180,9 +182,8 @@ fn in_nested(table: Table, number: u64, left: u64, octets: &[u8]) -> Expected {
     if !is_kind_whole(octets) {
         return in_head(table, number, left, octets);
     }
-    let front = piece_front(octets);
-    let kind = table.kind(header_tnf(front.header), front.head.kind);
-    length_mismatch(kind, payload_length(octets), front.content)
+    let kind = table.kind(header_tnf(octet_at(octets, 0)), kind_come(octets));
+    length_mismatch(kind, payload_length(octets), content_come(octets))
 }
 
 /// The same, by the reason.
@@ -217,7 +218,7 @@ fn nest_after(table: Option<Table>, count: usize) -> Option<Table> {
 /// The same, after these octets of a piece.
 fn nest_begun(octets: &[u8]) -> Option<Table> {
     if is_payload_begun(octets) {
-        nest_after(kind_begun(octets).table(), piece_front(octets).content.len())
+        nest_after(kind_begun(octets).table(), content_come(octets).len())
     } else {
         None
     }
@@ -233,7 +234,7 @@ fn version_length(table: Table) -> usize {
 
 /// Returns the expectation in this nested message, if a byte after these octets of a piece is refused.
 fn in_nest(table: Table, bytes: &[u8], refusal: Refusal, come: &[u8]) -> Expected {
-    let content = piece_front(come).content;
+    let content = content_come(come);
     let whole = whole_pieces(after(content, version_length(table)));
     let left = payload_length(come).saturating_sub(content.len() as u64) + whole.rest.len() as u64;
     let number = whole.count as u64 + 1;

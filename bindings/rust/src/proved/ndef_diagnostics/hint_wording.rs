@@ -12,9 +12,7 @@ impl Hint {
             Hint::InTag(found) => tag_sentence(found),
             Hint::Text(text) => dump_sentence(text),
             Hint::MessageAt(place) => near_sentence(place),
-            Hint::AfterBlocks => {
-                Sentence::of(b"FE (hexadecimal) ends the TLV blocks of a tag; what comes after it is no message.")
-            }
+            Hint::AfterBlocks => Sentence::of(b"FE (hexadecimal) ends the TLV blocks of a tag."),
             Hint::CodeLeftOut => Sentence::of(b"68 (hexadecimal) is the letter h: was the identifier code left out?"),
             Hint::StandardProfile => {
                 Sentence::of(b"The standard profile reads this (`--profile standard`, in C NDEF_STANDARD).")
@@ -31,12 +29,21 @@ impl Hint {
         }
     }
 
-    /// The number of bytes that a tag has for that message; 0 where the hint names none.
+    /// The number of bytes at that place that a tag has for the message; 0 where the hint names none, as where reserved
+    /// areas may lie among them, or the tag is being written.
     pub fn length(self) -> u64 {
         match self {
-            Hint::InTag(found) => u64::from(found.length),
+            Hint::InTag(found) => given_length(found),
             _ => 0,
         }
+    }
+}
+
+/// The number of bytes at its place that a tag has for a message; 0 if they are not the message.
+fn given_length(found: Found) -> u64 {
+    match found.wrapping {
+        Wrapping::Block | Wrapping::Attributes | Wrapping::File => u64::from(found.length),
+        Wrapping::Interrupted | Wrapping::Unfinished => 0,
     }
 }
 
@@ -58,8 +65,8 @@ fn push_both(sentence: &mut Sentence, number: u64, text: &[u8]) {
 /// Returns the words for the bytes that surround a message on a tag.
 fn wrapping_text(wrapping: Wrapping) -> &'static [u8] {
     match wrapping {
-        Wrapping::Block => b", in an NDEF TLV of a tag",
-        Wrapping::Attributes => b", after the attribute block of a Type 3 Tag",
+        Wrapping::Block | Wrapping::Interrupted => b", in an NDEF TLV of a tag",
+        Wrapping::Attributes | Wrapping::Unfinished => b", after the attribute block of a Type 3 Tag",
         Wrapping::File => b", after its length, as in a file of a Type 4 Tag",
     }
 }
@@ -77,15 +84,44 @@ fn push_cut(sentence: &mut Sentence, found: Found) {
     push_both(sentence, u64::from(found.length), b"`.");
 }
 
-/// The sentence for what a tag has for a message.
-fn tag_sentence(found: Found) -> Sentence {
-    if found.length == 0 {
-        return Sentence::of(b"This tag is empty: it has no bytes for a message.");
-    }
+/// The sentence for a message on a tag, with the command that gives its bytes.
+fn command_sentence(found: Found) -> Sentence {
     let mut sentence = Sentence::of(b"A message of length ");
     push_placed(&mut sentence, found);
     push_cut(&mut sentence, found);
     sentence
+}
+
+/// The sentence for a message in which reserved areas of a tag may lie.
+fn interrupted_sentence(found: Found) -> Sentence {
+    let mut sentence = Sentence::of(b"A message of length ");
+    push_both(&mut sentence, u64::from(found.length), b" may begin at byte ");
+    push_both(
+        &mut sentence,
+        u64::from(found.at),
+        b", in an NDEF TLV of a tag, but reserved areas may lie before its end: use a reader that skips them.",
+    );
+    sentence
+}
+
+/// The sentence for what a tag that states a length has for a message.
+fn stated_sentence(found: Found) -> Sentence {
+    if found.length == 0 {
+        Sentence::of(b"This tag is empty: it has no bytes for a message.")
+    } else {
+        command_sentence(found)
+    }
+}
+
+/// The sentence for what a tag has for a message.
+fn tag_sentence(found: Found) -> Sentence {
+    match found.wrapping {
+        Wrapping::Block | Wrapping::Attributes | Wrapping::File => stated_sentence(found),
+        Wrapping::Interrupted => interrupted_sentence(found),
+        Wrapping::Unfinished => Sentence::of(
+            b"This Type 3 Tag is being written: its attribute block says that the message is not whole yet.",
+        ),
+    }
 }
 
 /// The sentence for a text that spells bytes.

@@ -5,7 +5,8 @@
 //! The files:
 //!
 //! - `expected.rs`: the expectation. `expecting.rs`, `crates/ndef_diagnostics/specs/Expectations.antt`: from the bytes up to a refused one.
-//! - `begun.rs`, `crates/ndef_diagnostics/specs/Begun.antt`: a piece as far as it has come.
+//! - `begun.rs`, `crates/ndef_diagnostics/specs/Begun.antt`: a piece as far as it has come. `wholes.rs`, `crates/ndef_diagnostics/specs/Wholes.antt`: the whole pieces
+//!   before it, and the records that end with them.
 //! - `length_mismatch.rs`, `crates/ndef_diagnostics/specs/LengthMismatches.antt`: the expectation for a payload that doesn't fit its length.
 //! - `poster_heads.rs`, `crates/ndef_diagnostics/specs/PosterHeads.antt`: the expectation in a head of a smart poster.
 //! - `hint.rs`, `hint_wording.rs`, `crates/ndef_diagnostics/specs/Hints.antt`: hints. `tag_memory.rs`, `crates/ndef_diagnostics/specs/TagMemory.antt`: the place of a
@@ -32,6 +33,7 @@ mod remark;
 mod sentence;
 mod tag_memory;
 mod text_remark;
+mod wholes;
 mod wording;
 
 pub use begun::{is_lengths_whole, least_record};
@@ -45,3 +47,4 @@ pub use remark::{field_remark, Remark};
 pub use sentence::{Sentence, ROOM};
 pub use tag_memory::{Found, Wrapping};
 pub use text_remark::text_remark_of;
+pub use wholes::{whole_pieces, WholePieces};

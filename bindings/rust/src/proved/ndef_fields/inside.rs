@@ -22,7 +22,7 @@ pub(crate) fn outer_inside(kind: Kind, payload: &[u8]) -> Inside<'_> {
             stage: Stage::Whole(FieldName::Version),
             octets: payload.split_at(payload.len() - inner_of(kind, payload).len()).0,
         },
-        None => Inside { stage: Stage::outside(kind), octets: payload },
+        None => Inside { stage: Stage::of(kind.outer()), octets: payload },
     }
 }
 

@@ -8,12 +8,9 @@
 //! - `message_fields.rs`, `step_fields.rs`: the fields of a message, one after another; those of one piece.
 //! - `inside.rs`, `stage.rs`: the fields of a payload, by the layout that the languages of payloads read.
 //! - `report.rs`: the fields of the message with which an input begins. `last.rs`: the field of the last of some bytes.
-//! - `front.rs`, `heads.rs`: a piece of which a front has come, and the whole pieces before it.
 //! - `crates/ndef_fields/src/laws.rt`: that each byte has one field.
 
 mod field;
-mod front;
-mod heads;
 mod inside;
 mod last;
 mod message_fields;
@@ -23,8 +20,6 @@ mod stage;
 mod step_fields;
 
 pub use field::Field;
-pub use front::{piece_front, HeadOctets, PieceFront};
-pub use heads::{whole_pieces, WholePieces};
 pub use last::{field_of_last, ByteField};
 pub use message_fields::Fields;
 pub use name::FieldName;

@@ -37,7 +37,7 @@ pub(crate) struct NamesAt {
 }
 
 /// The first octet; 0 where there is none.
-pub(crate) fn first(octets: &[u8]) -> u8 {
+fn first(octets: &[u8]) -> u8 {
     match octets {
         [octet, ..] => *octet,
         _ => 0,
@@ -129,11 +129,6 @@ impl Stage {
     /// The field with which a payload of a kind begins.
     pub(crate) fn of(kind: Kind) -> Stage {
         inside(Leaf::of(kind, Profile::Standard), first_of(kind), last_of(kind))
-    }
-
-    /// The same outside of nested messages, for a payload that holds no message.
-    pub(crate) fn outside(kind: Kind) -> Stage {
-        Stage::of(kind.outer())
     }
 
     /// The next field, cut from these octets.

@@ -70,8 +70,8 @@ public final class FoundHint {
                 return "The bytes may begin with what surrounds a message on a tag; a message begins at byte " + place
                         + ": read `" + copy(place, given) + "`.";
             case INTERRUPTED:
-                return "A message may begin at byte " + place + ", in an NDEF TLV of a tag, but reserved areas may lie in it: "
-                        + "read the tag with a program that skips them.";
+                return "A message may begin at byte " + place + ", in an NDEF TLV of a tag, but "
+                        + "reserved areas may lie before its end: use a reader that skips them.";
             default:
                 return plain(kind);
         }

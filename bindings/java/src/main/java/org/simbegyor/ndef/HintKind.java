@@ -30,7 +30,7 @@ public enum HintKind {
     CODE(13),
     /** A reader of the standard profile accepts the bytes. */
     STANDARD(14),
-    /** Reserved areas of a tag may lie inside the message of an NDEF message TLV. */
+    /** Reserved areas of a tag may lie before the end of an NDEF message TLV. */
     INTERRUPTED(15),
     /** A Type 3 Tag is being written: its message is not whole yet. */
     UNFINISHED(16);
