@@ -1,6 +1,7 @@
 -- The whole pieces at the beginning of some bytes.
 use Rattle.std.proofs.Common.{◌≡◌, ◌≤◌, ℕ, ◌+◌, Bool, true, false, not, refl, sym, ◌∙◌, ap, arith, List, [], ◌∷◌, ◌++◌, length, append_assoc, length-append, if◌then◌else◌}
 use Rattle.std.proofs.lemmas.List.{append-nil}
+use mir.Val.{bool_byte}
 use Rattle.ndef_format.specs.Records.{Piece, SpellsPiece}
 use Rattle.ndef_format.specs.Messages.{SpellsPieces}
 use Rattle.ndef_piece.specs.Whole.{IsSplit}
@@ -34,6 +35,10 @@ chunk_more : (ps : List Piece) (w : Piece) → ends_in_chunk (ps ++ w ∷ []) �
 chunk_more [] w = refl
 chunk_more (p ∷ []) w = refl
 chunk_more (p ∷ q ∷ ps) w = chunk_more (q ∷ ps) w
+
+pub byte_ended : (chunked : Bool) → bool_byte (not chunked) ≡ (if not chunked then 1 else 0)
+byte_ended true = refl
+byte_ended false = refl
 
 pub at_most_one : (chunked : Bool) → (if not chunked then 1 else 0) ≤ 1
 at_most_one true = omega arith

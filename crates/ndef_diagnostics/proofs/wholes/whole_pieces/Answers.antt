@@ -1,7 +1,8 @@
-use Rattle.std.proofs.Common.{◌≡◌, ◌∙◌, ap, arith, not, if◌then◌else◌}
+use Rattle.std.proofs.Common.{◌∙◌, ap, arith, not}
+use mir.Val.{bool_byte}
 use Rattle.ndef_format.specs.HeadReasons.{is_set}
 use Rattle.ndef_piece.specs.Whole.{shown}
-use Rattle.ndef_diagnostics.proofs.KeepsWhole.{at_most_one, split_shorter, whole_first, whole_more}
+use Rattle.ndef_diagnostics.proofs.KeepsWhole.{at_most_one, byte_ended, split_shorter, whole_first, whole_more}
 use Rattle.ndef_diagnostics.proofs.wholes.whole_pieces.Goals as goal
 
 pub loop-piece-init : goal.loop-piece-init
@@ -15,7 +16,7 @@ loop-piece-preserved c =
     let short = is_set 4 w.header in
     let split = c.in-Some.ensures.piece in
     let e = c.is_chunked-ends_in_chunk.ensures in
-    let r : c.from-ended.result ≡ (if not (is_set 5 w.header) then 1 else 0) = c.from-ended.ensures ∙ ap (λ b. if not b then 1 else 0) e in
+    let r = c.from-ended.ensures ∙ ap (λ b. bool_byte (not b)) e ∙ byte_ended (is_set 5 w.header) in
     let more = whole_more bytes l.rest.now w.rest.now l.count l.records l.ends_in_chunk (shown w) short l.invariant.keeps split in
     let n = split_shorter (shown w) short w.rest.now l.rest.now split in
     let few = l.invariant.few in
