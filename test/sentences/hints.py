@@ -57,7 +57,7 @@ def interrupted(scene, limits, length, at):
     given, starts = scene.given, [begins for begins in blocks_begin(scene.given) if message_block(scene.given, begins) == (at, length)]
     has_control = any(tag in CONTROLS and count == 3 for begins in starts for tag, _, count in blocks(given, begins))
     is_dynamic = any(12 <= begins < 16 and given[begins - 2] >= 0x0f for begins in starts)
-    return scene.at == 0 and (length == 0 or given[at] & 0x80) and (has_control or is_dynamic)
+    return scene.at == 0 and (length == 0 or given[at:at + 1] >= b'\x80') and (has_control or is_dynamic)
 
 
 def after_attributes(scene, limits, length, at, *command):
