@@ -249,7 +249,8 @@ inline std::string at_place(ndef_size place) {
 
 /// The sentence for a message at an offset, in which reserved areas of a tag may lie.
 inline std::string interrupted(ndef_size place) {
-    return "A message may begin at byte " + std::to_string(place) +
+    const std::string at = std::to_string(place);
+    return "A message may begin at byte " + at +
            ", in an NDEF TLV of a tag, but reserved areas may lie before its end: use a reader that skips them.";
 }
 } // namespace detail
