@@ -1,5 +1,7 @@
 pub mod Counts
+pub mod Cuts
 pub mod Ends
+pub mod Filled
 pub mod Hints
 pub mod KeepsWhole
 pub mod LengthMismatches

@@ -1,5 +1,5 @@
 -- Hints for bytes that are refused.
-use Rattle.std.specs.Prelude.{◌≡◌, ℕ, ◌+◌, ◌<◌, ◌≤◌, ◌==◌, ◌||◌, ◌++◌, ◌⊎◌, Bool, true, List, Some, None, codes, decimal, drop, if◌then◌else◌, slice_index, take}
+use Rattle.std.specs.Prelude.{◌≡◌, ℕ, ◌<◌, ◌≤◌, ◌==◌, ◌||◌, ◌++◌, ◌⊎◌, Bool, true, List, Some, None, codes, decimal, drop, if◌then◌else◌, slice_index, take}
 use Rattle.ndef_format.specs.Accepted.{IsAccepted}
 use Rattle.ndef_format.specs.Limits.{LimitValues}
 use Rattle.ndef_format.specs.Payloads.{IsTypedPayload}
@@ -88,47 +88,25 @@ OneHint = (limits : LimitValues) (bytes : List ℕ) (refusal : Refusal) (hint ot
 
 -- ---- sentences, and what they name
 
--- the bytes that surround a message on a tag
-abbrev pub wrapping_text : Wrapping → List ℕ
-wrapping_text wrappings.Block = codes ", in an NDEF TLV of a tag"
-wrapping_text wrappings.Attributes = codes ", after the attribute block of a Type 3 Tag"
-wrapping_text wrappings.File = codes ", after its length, as in a file of a Type 4 Tag"
-wrapping_text wrappings.Interrupted = codes ", in an NDEF TLV of a tag"
-wrapping_text wrappings.Unfinished = codes ", after the attribute block of a Type 3 Tag"
-
--- the length and the place of a message on a tag, and the beginning of a command
-abbrev pub placed_text : (before : List ℕ) → Found → List ℕ
-placed_text before found =
-    before ++ decimal found.length ++ codes " may begin at byte " ++ decimal found.at
-    ++ wrapping_text found.wrapping ++ codes ": `tail -c +"
-
--- the same, and the rest of the command, which gives the bytes of the message
-abbrev pub cut_text : (before : List ℕ) → (place length : ℕ) → List ℕ
-cut_text before place length =
-    before ++ decimal (place + 1) ++ codes " | head -c " ++ decimal length ++ codes "`."
-
--- the sentence for a message on a tag, with the command that gives its bytes
-abbrev pub command_text : Found → List ℕ
-command_text found = cut_text (placed_text (codes "A message of length ") found) found.at found.length
-
--- the sentence for a message in which reserved areas of a tag may lie
-abbrev pub interrupted_text : Found → List ℕ
-interrupted_text found =
-    codes "A message of length " ++ decimal found.length ++ codes " may begin at byte " ++ decimal found.at
-    ++ codes
-    ", in an NDEF TLV of a tag, but reserved areas may lie before its end: use a reader that skips them."
+-- the sentence for a message on a tag, which ends with what surrounds it there
+abbrev pub message_text : Found → (around : List ℕ) → List ℕ
+message_text found around =
+    codes "A message of length " ++ decimal found.length ++ codes " may begin at byte " ++ decimal found.at ++ around
 
 -- the sentence for what a tag that states a length has for a message
-abbrev pub stated_text : Found → List ℕ
-stated_text found =
-    if found.length == 0 then codes "This tag is empty: it has no bytes for a message." else command_text found
+abbrev pub stated_text : Found → (around : List ℕ) → List ℕ
+stated_text found around = if found.length == 0 then codes "This tag is empty: it has no bytes for a message."
+    else message_text found around
 
--- the sentence for what a tag has for a message: no command where reserved areas may cut it, or it is not whole
+-- the sentence for what a tag has for a message
 abbrev pub text_in : Wrapping → Found → List ℕ
-text_in wrappings.Interrupted found = interrupted_text found
+text_in wrappings.Block found = stated_text found (codes ", in an NDEF TLV of a tag.")
+text_in wrappings.Attributes found = stated_text found (codes ", after the attribute block of a Type 3 Tag.")
+text_in wrappings.File found = stated_text found (codes ", after its length, as in a file of a Type 4 Tag.")
+text_in wrappings.Interrupted found = message_text found
+    (codes ", in an NDEF TLV of a tag, but reserved areas may lie before its end: use a reader that skips them.")
 text_in wrappings.Unfinished found =
     codes "This Type 3 Tag is being written: its attribute block says that the message is not whole yet."
-text_in wrapping found = stated_text found
 
 -- the same, by what surrounds the message
 abbrev pub tag_text : Found → List ℕ
@@ -136,13 +114,15 @@ tag_text found = text_in found.wrapping found
 
 -- the sentence for a text that spells bytes
 abbrev pub dump_text : DumpText → List ℕ
-dump_text texts.Digits = codes "These are hexadecimal digits, not the bytes that they spell; `--hex` reads them."
+dump_text texts.Digits = codes "These are digits, not the bytes that they spell; `--hex` reads them."
 dump_text texts.Xxd = codes "This is a dump by xxd, not the bytes that it spells; `--hex` reads it."
 dump_text texts.Hexdump = codes "This is a dump by hexdump, not the bytes that it spells; `--hex` reads it."
+dump_text texts.Od = codes "This is a dump by od, not the bytes that it spells; `--hex` reads it."
+dump_text texts.Suppressed =
+    codes "This is a dump by od with `*` for repeated lines, whose number it doesn't say; `od -v` writes them."
 dump_text texts.Words =
-    codes "This is a dump by od or hexdump, not the bytes; `--hex` reads those of `hexdump -C` and xxd."
-dump_text texts.Flipper =
-    codes "This is a file of a Flipper; `--hex` reads what `sed -n 's/^Page [0-9]*: //p'` leaves of it."
+    codes "This is a dump in words, not bytes; `--hex` reads those of `hexdump -C` and `od -tx1`."
+dump_text texts.Flipper = codes "This is a file of a Flipper, not the bytes that it spells; `--hex` reads it."
 dump_text texts.Proxmark =
     codes "This is what a Proxmark prints, not the bytes; `--hex` reads the digits of its blocks."
 dump_text texts.Base64 = codes "This may be base64, not the bytes that it spells; `base64 -d` gives them."

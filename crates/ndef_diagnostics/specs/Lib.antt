@@ -1,5 +1,7 @@
 pub mod Begun
 pub mod DumpTexts
+pub mod Dumps
+pub mod Filled
 pub mod Hints
 pub mod LengthMismatches
 pub mod PosterHeads

@@ -10,6 +10,8 @@
 //! - `poster_heads.rt`, `specs/PosterHeads.antt`: the expectation in a head of a smart poster.
 //! - `hint.rt`, `hint_wording.rt`, `specs/Hints.antt`: hints. `tag_memory.rt`, `specs/TagMemory.antt`: the place of a
 //!   message in the memory of a tag. `dump_text.rt`, `specs/DumpTexts.antt`: texts that spell bytes.
+//! - `dump.rt`, `specs/Dumps.antt`: the bytes that a dump spells. `dump_form.rt`: its form. `dump_words.rt`,
+//!   `dump_gaps.rt`: its words, and its lines `*`. `dump_digits.rt`, `specs/Filled.antt`: its digits.
 //! - `remark.rt`, `specs/Remarks.antt`: remarks about a field of a message that is accepted. `text_remark.rt`,
 //!   `specs/TextRemarks.antt`: about a text. `record_remark.rt`, `poster_remark.rt`, `handover_remark.rt`,
 //!   `specs/RecordRemarks.antt`: about a record beside the others. `few.rt`: the messages that are searched for them.
@@ -18,7 +20,12 @@
 #![tactic(auto)]
 
 mod begun;
+mod dump;
+mod dump_digits;
+mod dump_form;
+mod dump_gaps;
 mod dump_text;
+mod dump_words;
 mod expected;
 mod expecting;
 mod few;
@@ -38,6 +45,7 @@ mod wholes;
 mod wording;
 
 pub use begun::{is_lengths_whole, least_record};
+pub use dump::{DumpFault, read_dump};
 pub use dump_text::DumpText;
 pub use expected::{Expected, Whose};
 pub use expecting::expected_at;

@@ -56,68 +56,35 @@ fn near_sentence(place: u64) -> Sentence {
     sentence
 }
 
-/// Appends a number and a text.
-fn push_both(sentence: &mut Sentence, number: u64, text: &[u8]) {
-    sentence.push_number(number);
-    sentence.push(text);
-}
-
-/// Returns the words for the bytes that surround a message on a tag.
-fn wrapping_text(wrapping: Wrapping) -> &'static [u8] {
-    match wrapping {
-        Wrapping::Block | Wrapping::Interrupted => b", in an NDEF TLV of a tag",
-        Wrapping::Attributes | Wrapping::Unfinished => b", after the attribute block of a Type 3 Tag",
-        Wrapping::File => b", after its length, as in a file of a Type 4 Tag",
-    }
-}
-
-/// Appends the length and the place of a message on a tag, and the beginning of a command.
-fn push_placed(sentence: &mut Sentence, found: Found) {
-    push_both(sentence, u64::from(found.length), b" may begin at byte ");
-    push_both(sentence, u64::from(found.at), wrapping_text(found.wrapping));
-    sentence.push(b": `tail -c +");
-}
-
-/// Appends the rest of the command, which gives the bytes of the message.
-fn push_cut(sentence: &mut Sentence, found: Found) {
-    push_both(sentence, u64::from(found.at) + 1, b" | head -c ");
-    push_both(sentence, u64::from(found.length), b"`.");
-}
-
-/// The sentence for a message on a tag, with the command that gives its bytes.
-fn command_sentence(found: Found) -> Sentence {
+/// The sentence for a message on a tag, which ends with what surrounds it there.
+fn message_sentence(found: Found, around: &[u8]) -> Sentence {
     let mut sentence = Sentence::of(b"A message of length ");
-    push_placed(&mut sentence, found);
-    push_cut(&mut sentence, found);
-    sentence
-}
-
-/// The sentence for a message in which reserved areas of a tag may lie.
-fn interrupted_sentence(found: Found) -> Sentence {
-    let mut sentence = Sentence::of(b"A message of length ");
-    push_both(&mut sentence, u64::from(found.length), b" may begin at byte ");
-    push_both(
-        &mut sentence,
-        u64::from(found.at),
-        b", in an NDEF TLV of a tag, but reserved areas may lie before its end: use a reader that skips them.",
-    );
+    sentence.push_number(u64::from(found.length));
+    sentence.push(b" may begin at byte ");
+    sentence.push_number(u64::from(found.at));
+    sentence.push(around);
     sentence
 }
 
 /// The sentence for what a tag that states a length has for a message.
-fn stated_sentence(found: Found) -> Sentence {
+fn stated_sentence(found: Found, around: &[u8]) -> Sentence {
     if found.length == 0 {
         Sentence::of(b"This tag is empty: it has no bytes for a message.")
     } else {
-        command_sentence(found)
+        message_sentence(found, around)
     }
 }
 
 /// The sentence for what a tag has for a message.
 fn tag_sentence(found: Found) -> Sentence {
     match found.wrapping {
-        Wrapping::Block | Wrapping::Attributes | Wrapping::File => stated_sentence(found),
-        Wrapping::Interrupted => interrupted_sentence(found),
+        Wrapping::Block => stated_sentence(found, b", in an NDEF TLV of a tag."),
+        Wrapping::Attributes => stated_sentence(found, b", after the attribute block of a Type 3 Tag."),
+        Wrapping::File => stated_sentence(found, b", after its length, as in a file of a Type 4 Tag."),
+        Wrapping::Interrupted => message_sentence(
+            found,
+            b", in an NDEF TLV of a tag, but reserved areas may lie before its end: use a reader that skips them.",
+        ),
         Wrapping::Unfinished => Sentence::of(
             b"This Type 3 Tag is being written: its attribute block says that the message is not whole yet.",
         ),
@@ -127,15 +94,15 @@ fn tag_sentence(found: Found) -> Sentence {
 /// The sentence for a text that spells bytes.
 fn dump_sentence(text: DumpText) -> Sentence {
     Sentence::of(match text {
-        DumpText::Digits => b"These are hexadecimal digits, not the bytes that they spell; `--hex` reads them.",
+        DumpText::Digits => b"These are digits, not the bytes that they spell; `--hex` reads them.",
         DumpText::Xxd => b"This is a dump by xxd, not the bytes that it spells; `--hex` reads it.",
         DumpText::Hexdump => b"This is a dump by hexdump, not the bytes that it spells; `--hex` reads it.",
-        DumpText::Words => {
-            b"This is a dump by od or hexdump, not the bytes; `--hex` reads those of `hexdump -C` and xxd."
+        DumpText::Od => b"This is a dump by od, not the bytes that it spells; `--hex` reads it.",
+        DumpText::Suppressed => {
+            b"This is a dump by od with `*` for repeated lines, whose number it doesn't say; `od -v` writes them."
         }
-        DumpText::Flipper => {
-            b"This is a file of a Flipper; `--hex` reads what `sed -n 's/^Page [0-9]*: //p'` leaves of it."
-        }
+        DumpText::Words => b"This is a dump in words, not bytes; `--hex` reads those of `hexdump -C` and `od -tx1`.",
+        DumpText::Flipper => b"This is a file of a Flipper, not the bytes that it spells; `--hex` reads it.",
         DumpText::Proxmark => b"This is what a Proxmark prints, not the bytes; `--hex` reads the digits of its blocks.",
         DumpText::Base64 => b"This may be base64, not the bytes that it spells; `base64 -d` gives them.",
     })

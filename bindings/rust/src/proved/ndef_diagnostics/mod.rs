@@ -11,6 +11,8 @@
 //! - `poster_heads.rs`, `crates/ndef_diagnostics/specs/PosterHeads.antt`: the expectation in a head of a smart poster.
 //! - `hint.rs`, `hint_wording.rs`, `crates/ndef_diagnostics/specs/Hints.antt`: hints. `tag_memory.rs`, `crates/ndef_diagnostics/specs/TagMemory.antt`: the place of a
 //!   message in the memory of a tag. `dump_text.rs`, `crates/ndef_diagnostics/specs/DumpTexts.antt`: texts that spell bytes.
+//! - `dump.rs`, `crates/ndef_diagnostics/specs/Dumps.antt`: the bytes that a dump spells. `dump_form.rs`: its form. `dump_words.rs`,
+//!   `dump_gaps.rs`: its words, and its lines `*`. `dump_digits.rs`, `crates/ndef_diagnostics/specs/Filled.antt`: its digits.
 //! - `remark.rs`, `crates/ndef_diagnostics/specs/Remarks.antt`: remarks about a field of a message that is accepted. `text_remark.rs`,
 //!   `crates/ndef_diagnostics/specs/TextRemarks.antt`: about a text. `record_remark.rs`, `poster_remark.rs`, `handover_remark.rs`,
 //!   `crates/ndef_diagnostics/specs/RecordRemarks.antt`: about a record beside the others. `few.rs`: the messages that are searched for them.
@@ -18,7 +20,12 @@
 //! - `crates/ndef_diagnostics/src/laws.rt`, `crates/ndef_diagnostics/specs/Truths.antt`: the laws that sentences are true.
 
 mod begun;
+mod dump;
+mod dump_digits;
+mod dump_form;
+mod dump_gaps;
 mod dump_text;
+mod dump_words;
 mod expected;
 mod expecting;
 mod few;
@@ -37,6 +44,7 @@ mod wholes;
 mod wording;
 
 pub use begun::{is_lengths_whole, least_record};
+pub use dump::{read_dump, DumpFault};
 pub use dump_text::DumpText;
 pub use expected::{Expected, Whose};
 pub use expecting::expected_at;

@@ -1,0 +1,12 @@
+use Rattle.std.proofs.Common.{◌≡◌, ◌∷◌, [], ◌+◌, length}
+use Rattle.std.specs.List.{list_all}
+use Rattle.std.specs.Option.{option_map_or}
+use Rattle.ndef_diagnostics.specs.Dumps.{are_prefixed_pairs, is_pair, without_prefix, words_of}
+use Rattle.ndef_diagnostics.proofs.dump_form.are_prefixed_pairs.Given as goal
+
+abbrev pub invariant-loop-rest : goal.invariant-loop-rest
+invariant-loop-rest l =
+    list_all (λ word. is_pair (without_prefix word)) (l.word ∷ option_map_or (λ more. words_of more.now) l.rest []) ≡ are_prefixed_pairs l.text
+
+abbrev pub decreases-loop-rest : goal.decreases-loop-rest
+decreases-loop-rest l = option_map_or (λ more. length more.now + 1) l.rest 0
