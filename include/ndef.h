@@ -23,8 +23,9 @@
  * Most calls return an ndef_status. With NDEF_BAD_ARGUMENT and NDEF_END the call has written nothing (but ndef_begin
  * has written its checker); with NDEF_BUFFER_TOO_SMALL it has written *count alone. Where the array is too small or
  * there is no field, ndef_fields, ndef_field_at and ndef_next_field have written *refusal as well, and ndef_items,
- * which has no count, *out. What `out`, `count`, `refusal` and a buffer held before the call does not matter: nothing
- * need have been written there, so a variable without a value and fresh memory of malloc serve.
+ * ndef_items_within and ndef_handover_items, which have no count, *out. What `out`, `count`, `refusal` and a buffer
+ * held before the call does not matter: nothing need have been written there, so a variable without a value and fresh
+ * memory of malloc serve.
  *
  * A buffer (the parameter `buffer`) is memory that the caller supplies, `capacity` bytes long, to which a call writes
  * bytes. The call puts the number of bytes it wrote into *count. Where the buffer is too small, the answer is
@@ -175,17 +176,18 @@ enum ndef_hint_number {
     NDEF_HINT_FILE = 3,         /* a message comes after its length, as in a file of a Type 4 Tag */
     NDEF_HINT_MESSAGE = 4,      /* a message begins after other bytes */
     NDEF_HINT_TERMINATOR = 5,   /* the terminator of a tag's TLV blocks is in place of a message */
-    NDEF_HINT_DIGITS = 6,       /* the bytes are hexadecimal digits */
+    NDEF_HINT_DIGITS = 6,       /* the bytes are digits */
     NDEF_HINT_XXD = 7,          /* the bytes are a dump by xxd */
     NDEF_HINT_HEXDUMP = 8,      /* the bytes are a dump by hexdump -C */
-    NDEF_HINT_WORDS = 9,        /* the bytes are a dump by od or hexdump, which may show numbers of two bytes */
+    NDEF_HINT_WORDS = 9,        /* the bytes are a dump by od or hexdump of numbers of more than one byte */
     NDEF_HINT_FLIPPER = 10,     /* the bytes are an NFC file of a Flipper */
     NDEF_HINT_PROXMARK = 11,    /* the bytes are what the client of a Proxmark prints */
     NDEF_HINT_BASE64 = 12,      /* the bytes may be base64 */
     NDEF_HINT_CODE = 13,        /* the identifier code of a URI may be missing */
     NDEF_HINT_STANDARD = 14,    /* a reader of the standard profile accepts the bytes */
     NDEF_HINT_INTERRUPTED = 15, /* reserved areas of a tag may lie before the end of an NDEF message TLV */
-    NDEF_HINT_UNFINISHED = 16   /* a Type 3 Tag is being written: its message is not whole yet */
+    NDEF_HINT_UNFINISHED = 16,  /* a Type 3 Tag is being written: its message is not whole yet */
+    NDEF_HINT_OD = 17           /* the bytes are a dump by od -tx1 */
 };
 
 /* What may help where bytes are refused, by numbers. */
@@ -491,6 +493,14 @@ uint32_t ndef_write_size(uint32_t bytes, uint8_t *buffer, ndef_size capacity, nd
  * NDEF_OK, NDEF_BUFFER_TOO_SMALL. NDEF_BAD_ARGUMENT: the number is above 65535. */
 uint32_t ndef_write_collision(uint32_t number, uint8_t *buffer, ndef_size capacity, ndef_size *count) NDEF_ANSWERS(4);
 
+/* Gives the number in the payload of an Action record (`act`, 1 byte), a Size record (`s`, 4 bytes) or a Collision
+ * Resolution record (`cr`, 2 bytes): what ndef_write_action, ndef_write_size and ndef_write_collision write. `kind` is
+ * NDEF_KIND_ACTION, NDEF_KIND_SIZE or NDEF_KIND_COLLISION.
+ * NDEF_OK. NDEF_REFUSED: the payload has more or fewer bytes, so refusal->place is 0 and refusal->reason is
+ *   NDEF_REASON_DOES_NOT_FIT. NDEF_BAD_ARGUMENT: `kind` is another. */
+uint32_t ndef_number(uint32_t kind, const uint8_t *payload, ndef_size length, uint32_t *out, ndef_checked *refusal)
+                     NDEF_ANSWERS(4, 5);
+
 /* A handover error. */
 typedef struct ndef_error_parts {
     ndef_size data_at, data_length; /* where its data lie in the payload; data_at is 1, also if they are empty */
@@ -558,7 +568,8 @@ uint32_t ndef_references(const uint8_t *payload, ndef_size length, ndef_part *pa
 
 /* Gives the links of a message: for each index what ndef_link_at gives for the same message and payload. The payload is
  * read once. Each alternative carrier is compared with the records up to its own, so the time grows with carriers times
- * records: for bytes that you don't trust, have ndef_check take the message with limits first.
+ * records: for bytes that you don't trust, have ndef_check take the message with limits first, or use
+ * ndef_handover_items.
  * NDEF_OK, NDEF_BUFFER_TOO_SMALL. NDEF_BAD_ARGUMENT: as ndef_link_at answers it. */
 uint32_t ndef_links(const uint8_t *bytes, ndef_size length, const uint8_t *payload, ndef_size payload_length,
                     ndef_link *links, ndef_size capacity, ndef_size *count) NDEF_ANSWERS(7);
@@ -863,7 +874,7 @@ typedef struct ndef_item {
     uint32_t at;              /* where it begins */
     uint32_t end;             /* where the next one begins */
     uint32_t tnf;             /* the type name format, 0 to 5 */
-    uint32_t kind;            /* the number of its kind, which ndef_kind says of a record in a message of its own */
+    uint32_t kind;            /* the number of its kind, which ndef_kind says of a record in this message */
     uint32_t type_at;         /* where its type begins */
     uint32_t type_length;     /* the bytes of its type, at most 255 */
     uint32_t id_length;       /* the bytes of its id, at most 255 */
@@ -890,6 +901,19 @@ typedef struct ndef_item {
  *   written. */
 uint32_t ndef_items(const uint8_t *bytes, ndef_size length, const ndef_limits *limits, ndef_checked *out,
                     ndef_item *items, ndef_size capacity) NDEF_ANSWERS(3, 4);
+
+/* Checks the payload of a record that holds a message, and gives all records of that message. The items are as
+ * ndef_items gives them, but offsets count from the first byte of the payload, and kinds are what ndef_kind says with
+ * `within` as `kind`: so the URI and the titles of a poster have their parts. `kind` is NDEF_KIND_SMART_POSTER,
+ * NDEF_KIND_REQUEST or NDEF_KIND_SELECT; in a request and a select the message follows the version byte, and a select
+ * may have no record. Flags: as ndef_request. The payload is read three times, however many records it has.
+ * NDEF_OK: the first out->records items are the records, in order; those after them are unchanged. out->place is
+ *   `length`.
+ * NDEF_BUFFER_TOO_SMALL: the payload is accepted, and `capacity` is less than out->records; the items are unchanged.
+ * NDEF_REFUSED: `out` has what ndef_poster, ndef_request or ndef_select answers of it; the items are unchanged.
+ * NDEF_BAD_ARGUMENT: `kind` is another, or an unknown flag is set; nothing is written. */
+uint32_t ndef_items_within(uint32_t kind, const uint8_t *payload, ndef_size length, uint32_t flags, ndef_checked *out,
+                           ndef_item *items, ndef_size capacity) NDEF_ANSWERS(5);
 
 /* ---- payloads of a layout that a program gives */
 
@@ -918,6 +942,52 @@ typedef struct ndef_laid_out {
  *   the wrong order or above 255; or a field follows a text or any octets. Nothing is written. */
 uint32_t ndef_check_layout(const uint8_t *payload, ndef_size length, const ndef_layout_field *fields,
                            ndef_size fields_count, ndef_laid_out *out) NDEF_ANSWERS(5);
+
+/* ---- a handover and all its references, in one call */
+
+/* A handover request or a select: what ndef_request and ndef_select give of it, and the number of its references. */
+typedef struct ndef_handover_parts {
+    ndef_size carriers;      /* its alternative carriers */
+    ndef_size references;    /* the references of all of them */
+    ndef_size detail_at;     /* where the data of the error of a select begin in the payload, else 0 */
+    ndef_size detail_length; /* the bytes of that data, else 0 */
+    uint32_t major;          /* the major version, which is 1 */
+    uint32_t minor;          /* the minor version, 0 to 15 */
+    uint32_t collision;      /* the random number of a request, 0 to 65535; 0 for a select */
+    uint32_t has_error;      /* 1 for a select with an error, else 0 */
+    uint32_t error;          /* the reason of its first error, 0 to 255, else 0 */
+} ndef_handover_parts;
+
+/* A reference of an alternative carrier, and the record to which it refers. */
+typedef struct ndef_reference_item {
+    ndef_size carrier;        /* the index of its alternative carrier, from 0 */
+    ndef_size number;         /* 0 for the carrier data reference, 1 to 255 for the auxiliary ones */
+    ndef_size carrier_at;     /* where the payload of its Alternative Carrier record (`ac`) begins in this payload */
+    ndef_size carrier_length; /* the bytes of that payload */
+    ndef_size at;             /* where the reference begins in this payload, also if it is empty */
+    ndef_size length;         /* its bytes, at most 255 */
+    ndef_size record_index;   /* the index of the record in the message, from 0 */
+    ndef_size record_at;      /* where the record begins in the message, for ndef_record_at */
+    uint32_t power;           /* the power state of the carrier: 0 inactive, 1 active, 2 activating, 3 unknown */
+    uint32_t has_record;      /* 1; or 0 if it refers to no record, and then index and offset are 0 */
+} ndef_reference_item;
+
+/* Gives all references of a handover, and the records to which they refer. The payload is that of a Handover Request
+ * record (`Hr`, kind NDEF_KIND_REQUEST) or of a Handover Select record (`Hs`, NDEF_KIND_SELECT), its chunks joined. The
+ * references of the first alternative carrier come first, and of each carrier its carrier data reference before its
+ * auxiliary ones, as ndef_references gives them, but as offsets in this payload. Each refers to the first record of the
+ * message whose id equals it; an empty one refers to none. The message is that with which `bytes` begin, and other
+ * bytes may follow it. With `length` 0 there is no message, and no reference has a record. Flags: as ndef_request.
+ * The time grows with the references and records times the logarithm of the number of references, whatever the ids
+ * are. Their order in `items` changes while the call runs.
+ * NDEF_OK: the first out->references items are the references; those after them are unchanged.
+ * NDEF_BUFFER_TOO_SMALL: `capacity` is less than out->references; the items are unchanged.
+ * NDEF_REFUSED: `refusal` has what ndef_request or ndef_select answers; the items are unchanged.
+ * NDEF_BAD_ARGUMENT: `kind` is another; an unknown flag is set; or `length` is not 0, and the bytes don't begin with
+ *   whole records up to one that is the last. Nothing is written. */
+uint32_t ndef_handover_items(uint32_t kind, const uint8_t *payload, ndef_size payload_length, uint32_t flags,
+                             const uint8_t *bytes, ndef_size length, ndef_handover_parts *out, ndef_checked *refusal,
+                             ndef_reference_item *items, ndef_size capacity) NDEF_ANSWERS(7, 8);
 
 #include "ndef_names.h"
 

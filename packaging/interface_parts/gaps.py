@@ -57,6 +57,8 @@ REASONS: Tuple[Tuple[str, Dict[str, str]], ...] = (
     ('A program checks the payloads of its own types itself.', {
         face: 'check_layout' for face in ('C++', 'JavaScript', 'Java', 'Go')}),
     ('A message is checked by the call that gives all its records.', {'Java': 'check'}),
+    ('It reads posters and handovers by other calls.', {
+        face: 'number items_within handover_items' for face in ('C++', 'Python', 'JavaScript', 'Java', 'Go')}),
 )
 
 

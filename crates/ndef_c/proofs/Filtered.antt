@@ -24,7 +24,7 @@ count_more test xs x e = ap length (filter_more test xs x e) ∙ length-append (
 pub count_same : {T : Type 0} (test : T → Bool) (xs : List T) (x : T) → test x ≡ false → length (filter test (xs ++ x ∷ [])) ≡ length (filter test xs)
 count_same test xs x e = ap length (filter_same test xs x e)
 
-filter_with : {T : Type 0} (test : T → Bool) (all xs : List T) (x : T) → (w : (more : List T) × (all ≡ xs ++ x ∷ more)) → test x ≡ true → filter test all ≡ filter test xs ++ x ∷ filter test w.0
+pub filter_with : {T : Type 0} (test : T → Bool) (all xs : List T) (x : T) → (w : (more : List T) × (all ≡ xs ++ x ∷ more)) → test x ≡ true → filter test all ≡ filter test xs ++ x ∷ filter test w.0
 filter_with test all xs x w e =
     ap (filter test) w.1 ∙ filter-append test xs (x ∷ w.0) ∙ ap (λ b. filter test xs ++ (if b then x ∷ filter test w.0 else filter test w.0)) e
 

@@ -31,7 +31,7 @@ keep : (b : Bool) (P : Item → Type 0) (i : Item) (rest : List Item) → (b ≡
 keep true P i rest h r = (h refl, r)
 keep false P i rest h r = r
 
-each_alternative : (P : Item → Type 0) (items : List Item) → AllByRecursion (λ i. is_carrier i ≡ true → P i) items → AllByRecursion P (alternatives items)
+pub each_alternative : (P : Item → Type 0) (items : List Item) → AllByRecursion (λ i. is_carrier i ≡ true → P i) items → AllByRecursion P (alternatives items)
 each_alternative P [] h = tt
 each_alternative P (i ∷ items) h = keep (is_carrier i) P i (alternatives items) h.0 (each_alternative P items h.1)
 
@@ -46,7 +46,7 @@ alternative_there SmartPoster profile payload t h = absurd (t refl)
 alternative_there Request profile payload t h = h
 alternative_there Select profile payload t h = h
 
-members : (table : Table) (profile : Profile) (items : List Item) → table ≢ SmartPoster → AllByRecursion (λ i. IsPayload (kind_in table i.tnf i.kind) profile i.payload) items
+pub members : (table : Table) (profile : Profile) (items : List Item) → table ≢ SmartPoster → AllByRecursion (λ i. IsPayload (kind_in table i.tnf i.kind) profile i.payload) items
     → AllByRecursion (λ i. is_carrier i ≡ true → IsAlternative i.payload) items
 members table profile [] t h = tt
 members table profile (i ∷ items) t h = (

@@ -17,6 +17,7 @@ pub mod HandoverSaid
 pub mod Handovers
 pub mod HandoverValues
 pub mod Linked
+pub mod LinkedReferences
 pub mod Layouts
 pub mod LinkParts
 pub mod Listed
@@ -24,6 +25,7 @@ pub mod PendingRecord
 pub mod Messages
 pub mod Mixed
 pub mod NestedRecords
+pub mod Numbered
 pub mod OneCheck
 pub mod Passed
 pub mod PieceParts
@@ -34,6 +36,9 @@ pub mod PosterValues
 pub mod Prefixed
 pub mod Puts
 pub mod Records
+pub mod ReferenceLaws
+pub mod ReferenceLists
+pub mod ReferenceOrders
 pub mod Normalized
 pub mod Several
 pub mod Stepped
@@ -41,4 +46,5 @@ pub mod Texts
 pub mod TitleTexts
 pub mod Walked
 pub mod Walking
+pub mod Within
 pub mod Writers

@@ -81,7 +81,7 @@ same_place P (i ∷ items) (suc j) zero x y f g = let e : i ≡ y = let a = g.at
 same_place P (i ∷ items) (suc j) (suc k) x y f g =
     ap suc (same_place P items j k x y (record { at = f.at; has = f.has; before = f.before.1 }) (record { at = g.at; has = g.has; before = g.before.1 }))
 
-index_once : (items : List Item) (id : List ℕ) (a b : Option ℕ) → IsIndexOf items id a → IsIndexOf items id b → a ≡ b
+pub index_once : (items : List Item) (id : List ℕ) (a b : Option ℕ) → IsIndexOf items id a → IsIndexOf items id b → a ≡ b
 index_once items id None None x y = refl
 index_once items id None (Some k) (inl e) y = absurd (y.0 e)
 index_once items id None (Some k) (inr l) y = absurd (lacks (HasId id) items k y.1 l y.2)

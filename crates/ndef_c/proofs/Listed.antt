@@ -1,28 +1,31 @@
 -- The records of a message, given one after another.
-use Rattle.std.proofs.Common.{◌≡◌, ℕ, ◌+◌, ◌<◌, ◌≤◌, ◌∷◌, [], drop, refl, sym, ◌∙◌, ap, subst, arith, List, ◌++◌, length, length-append, length-drop, append-nil, Bool, map, inl, inr}
+use Rattle.std.proofs.Common.{◌≡◌, ℕ, ◌+◌, ◌<◌, ◌≤◌, ◌∷◌, [], drop, refl, sym, ◌∙◌, ap, subst, arith, List, ◌++◌, length, length-append, length-drop, append-nil, Bool, true, map, Option, Some, None, inl, inr}
+use Rattle.std.proofs.Math.Seq.{take-length}
 use Rattle.std.specs.List.{AllByRecursion}
-use Rattle.ndef_format.specs.Kinds.{outer_kind}
+use Rattle.ndef_format.specs.Accepted.{IsMember}
+use Rattle.ndef_format.specs.Kinds.{kind_of, outer_kind}
 use Rattle.ndef_format.specs.Limits.{LimitValues}
-use Rattle.ndef_format.specs.Messages.{Item, SpellsPieces, payload_of, run_record}
-use Rattle.ndef_format.specs.Nested.{table_in}
+use Rattle.ndef_format.specs.Messages.{SpellsPieces, payload_of, run_record}
+use Rattle.ndef_format.specs.Nested.{IsPayload, table_in}
 use Rattle.ndef_format.specs.Payloads.{IsTypedBy, Sets}
 use Rattle.ndef_format.specs.Records.{Piece, Run, pieces}
-use Rattle.ndef_format.specs.Texts.{IsText}
-use Rattle.ndef_format.specs.Uris.{IsUri}
 use Rattle.ndef_format.specs.declared.kind.Kind.{Kind}
 use Rattle.ndef_format.specs.declared.kind.Kind.TheVariants as kinds
 use Rattle.ndef_format.specs.declared.profile.Profile.{Profile}
+use Rattle.ndef_format.specs.declared.table.Table.{Table}
 use Rattle.ndef_format.specs.Reasons.{Conditions}
 use Rattle.ndef_c.specs.Checks.{ChecksTo, TakesMessage}
-use Rattle.ndef_c.specs.Items.{AreItems, HasValue, IsItemAt}
+use Rattle.ndef_c.specs.Items.{AreItems, AreListed, AreTyped, HasValue, MayBeItem, MayHaveValue}
 use Rattle.ndef_c.specs.Kinds.{kind_number}
 use Rattle.ndef_c.specs.Walks.{AreWalked, BeginsWithRun, IsRecordAt}
 use Rattle.ndef_c.specs.declared.checking.NdefChecked.{NdefChecked}
+use Rattle.ndef_c.specs.declared.items.Listing.{Listing}
 use Rattle.ndef_c.specs.declared.items.NdefItem.{NdefItem}
 use Rattle.ndef_c.specs.declared.items.Value.{Value}
 use Rattle.ndef_c.specs.declared.record.NdefRecord.{NdefRecord}
 use Rattle.ndef_c.specs.declared.status.TheConstants.{OK}
 use Rattle.ndef_c.proofs.Followed.{initial_of, one_record, split_size}
+use Rattle.ndef_c.proofs.Walked.{checks_walked}
 
 -- ---- sizes
 
@@ -53,54 +56,70 @@ only_piece p (q ∷ ps) e = absurd (omega (arith, e))
 
 -- ---- values
 
--- the payloads of texts
-pub text_member : (kind : Kind) (records : ℕ) (profile : Profile) (s : List ℕ) → kind_number (outer_kind kind) ≡ 1 → IsTypedBy (table_in kind) kind records profile s → IsText s
-text_member kinds.Text records profile s e m = m
-text_member kinds.Uri records profile s e m = absurd (omega (arith, e))
-text_member kinds.SmartPoster records profile s e m = absurd (omega (arith, e))
-text_member kinds.Request records profile s e m = absurd (omega (arith, e))
-text_member kinds.Select records profile s e m = absurd (omega (arith, e))
-text_member kinds.Carrier records profile s e m = absurd (omega (arith, e))
-text_member kinds.Action records profile s e m = absurd (omega (arith, e))
-text_member kinds.Size records profile s e m = absurd (omega (arith, e))
-text_member kinds.MediaType records profile s e m = absurd (omega (arith, e))
-text_member kinds.Alternative records profile s e m = absurd (omega (arith, e))
-text_member kinds.Collision records profile s e m = absurd (omega (arith, e))
-text_member kinds.Error records profile s e m = absurd (omega (arith, e))
-text_member kinds.Other records profile s e m = absurd (omega (arith, e))
+-- a payload of another kind has none
+other_value : (profile : Profile) (kind : ℕ) (s : List ℕ) → 2 < kind → MayHaveValue profile kind s
+other_value profile kind s h = (λ e. absurd (omega (arith, e, h)), λ e. absurd (omega (arith, e, h)))
 
--- .. and of URIs
-pub uri_member : (kind : Kind) (records : ℕ) (profile : Profile) (s : List ℕ) → kind_number (outer_kind kind) ≡ 2 → IsTypedBy (table_in kind) kind records profile s → IsUri profile s
-uri_member kinds.Uri records profile s e m = m
-uri_member kinds.Text records profile s e m = absurd (omega (arith, e))
-uri_member kinds.SmartPoster records profile s e m = absurd (omega (arith, e))
-uri_member kinds.Request records profile s e m = absurd (omega (arith, e))
-uri_member kinds.Select records profile s e m = absurd (omega (arith, e))
-uri_member kinds.Carrier records profile s e m = absurd (omega (arith, e))
-uri_member kinds.Action records profile s e m = absurd (omega (arith, e))
-uri_member kinds.Size records profile s e m = absurd (omega (arith, e))
-uri_member kinds.MediaType records profile s e m = absurd (omega (arith, e))
-uri_member kinds.Alternative records profile s e m = absurd (omega (arith, e))
-uri_member kinds.Collision records profile s e m = absurd (omega (arith, e))
-uri_member kinds.Error records profile s e m = absurd (omega (arith, e))
-uri_member kinds.Other records profile s e m = absurd (omega (arith, e))
+-- a payload of a kind may have the value of that kind
+pub kind_value : (kind : Kind) (profile : Profile) (s : List ℕ) → IsPayload kind profile s → MayHaveValue profile (kind_number kind) s
+kind_value kinds.Other profile s m = (λ e. absurd (omega (arith, e)), λ e. absurd (omega (arith, e)))
+kind_value kinds.Text profile s m = (λ e. m, λ e. absurd (omega (arith, e)))
+kind_value kinds.Uri profile s m = (λ e. absurd (omega (arith, e)), λ e. m)
+kind_value kinds.SmartPoster profile s m = other_value profile 3 s (omega arith)
+kind_value kinds.Request profile s m = other_value profile 4 s (omega arith)
+kind_value kinds.Select profile s m = other_value profile 5 s (omega arith)
+kind_value kinds.Carrier profile s m = other_value profile 6 s (omega arith)
+kind_value kinds.Action profile s m = other_value profile 7 s (omega arith)
+kind_value kinds.Size profile s m = other_value profile 8 s (omega arith)
+kind_value kinds.MediaType profile s m = other_value profile 9 s (omega arith)
+kind_value kinds.Alternative profile s m = other_value profile 10 s (omega arith)
+kind_value kinds.Collision profile s m = other_value profile 11 s (omega arith)
+kind_value kinds.Error profile s m = other_value profile 12 s (omega arith)
+
+-- .. also one that holds a message
+typed_value : (kind : Kind) (table : Option Table) (records : ℕ) (profile : Profile) (s : List ℕ) → table_in kind ≡ table → IsTypedBy table kind records profile s → MayHaveValue profile (kind_number (outer_kind kind)) s
+typed_value kind None records profile s e m = kind_value (outer_kind kind) profile s m
+typed_value kinds.SmartPoster (Some t) records profile s e m = other_value profile 3 s (omega arith)
+typed_value kinds.Request (Some t) records profile s e m = other_value profile 4 s (omega arith)
+typed_value kinds.Select (Some t) records profile s e m = other_value profile 5 s (omega arith)
+typed_value _ (Some t) records profile s e m = absurd (cc)
+
+-- the payloads of a message that was checked
+each_value : (looks : Bool) (set : Sets) (limits : LimitValues) → (looks ≡ true → AreTyped set) → (runs : List Run) → AllByRecursion (IsMember set limits) (map run_record runs) → AllByRecursion (λ r. MayBeItem looks 0 limits.profile (run_record r)) runs
+each_value looks set limits t [] m = tt
+each_value looks set limits t (r ∷ runs) m =
+    let i = run_record r in
+    let kind = kind_of i.tnf i.kind in
+    (λ l. typed_value kind (table_in kind) limits.records limits.profile i.payload refl (t l limits i m.0), each_value looks set limits t runs m.1)
+
+-- its records may be given
+pub listed_of : (set : Sets) (holds : Conditions) (limits : LimitValues) (m : Listing) (out : NdefChecked) → m.within ≡ 0 → (m.looks ≡ true → AreTyped set) → (t : TakesMessage set holds limits m.bytes.now out)
+    → AreListed limits.profile m 0 t.viewed.runs t.viewed.taken
+listed_of set holds limits m out e typed t =
+    let v = t.viewed in
+    let bytes = m.bytes.now in
+    record {
+      walked = subst (λ s. AreWalked s 0 v.runs v.taken) (take-length bytes) (checks_walked set holds limits bytes v (length bytes) t.views t.views.0);
+      inside = t.views.0;
+      each = subst (λ k. AllByRecursion (λ r. MayBeItem m.looks k limits.profile (run_record r)) v.runs) (sym e)
+          (each_value m.looks set limits typed v.runs t.views.1.0.members);
+    }
 
 -- ---- the walk
 
 -- one more item
-pub items_on : (looks : Bool) (profile : Profile) (bytes : List ℕ) (from at : ℕ) (runs : List Run) (items : List NdefItem) (r : Run) (i : NdefItem) → AreItems looks profile bytes from runs items at → IsItemAt looks profile bytes at r i
-    → AreItems looks profile bytes from (runs ++ r ∷ []) (items ++ i ∷ []) i.end
-items_on looks profile bytes from at [] [] r i a h = (subst (λ k. IsItemAt looks profile bytes k r i) (sym a) h, refl)
-items_on looks profile bytes from at [] (j ∷ items) r i a h = absurd a
-items_on looks profile bytes from at (q ∷ runs) [] r i a h = absurd a
-items_on looks profile bytes from at (q ∷ runs) (j ∷ items) r i a h = (a.0, items_on looks profile bytes j.end at runs items r i a.1 h)
+pub items_on : (Is : ℕ → Run → NdefItem → Type 0) (from at : ℕ) (runs : List Run) (items : List NdefItem) (r : Run) (i : NdefItem) → AreItems Is from runs items at → Is at r i → AreItems Is from (runs ++ r ∷ []) (items ++ i ∷ []) i.end
+items_on Is from at [] [] r i a h = (subst (λ k. Is k r i) (sym a) h, refl)
+items_on Is from at [] (j ∷ items) r i a h = absurd a
+items_on Is from at (q ∷ runs) [] r i a h = absurd a
+items_on Is from at (q ∷ runs) (j ∷ items) r i a h = (a.0, items_on Is j.end at runs items r i a.1 h)
 
 -- there is one for each run
-pub items_count : (looks : Bool) (profile : Profile) (bytes : List ℕ) (from at : ℕ) (runs : List Run) (items : List NdefItem) → AreItems looks profile bytes from runs items at → length items ≡ length runs
-items_count looks profile bytes from at [] [] a = refl
-items_count looks profile bytes from at [] (j ∷ items) a = absurd a
-items_count looks profile bytes from at (q ∷ runs) [] a = absurd a
-items_count looks profile bytes from at (q ∷ runs) (j ∷ items) a = let n = items_count looks profile bytes j.end at runs items a.1 in omega (arith, n)
+pub items_count : (Is : ℕ → Run → NdefItem → Type 0) (from at : ℕ) (runs : List Run) (items : List NdefItem) → AreItems Is from runs items at → length items ≡ length runs
+items_count Is from at [] [] a = refl
+items_count Is from at [] (j ∷ items) a = absurd a
+items_count Is from at (q ∷ runs) [] a = absurd a
+items_count Is from at (q ∷ runs) (j ∷ items) a = let n = items_count Is j.end at runs items a.1 in omega (arith, n)
 
 -- what is walked begins within the bytes
 walk_within : (bytes : List ℕ) (at : ℕ) (rs : List Run) (end : ℕ) → AreWalked bytes at rs end → end ≤ length bytes → at ≤ length bytes
@@ -134,7 +153,7 @@ there bytes at [] end w some = absurd (omega (arith, some))
 there bytes at (q ∷ more) end w some = (q, drop w.0 bytes, w.1)
 
 -- what holds of all holds of one amid them
-pub member_amid : (P : Item → Type 0) (done : List Run) (r : Run) (more : List Run) → AllByRecursion P (map run_record (done ++ r ∷ more)) → P (run_record r)
+pub member_amid : (P : Run → Type 0) (done : List Run) (r : Run) (more : List Run) → AllByRecursion P (done ++ r ∷ more) → P r
 member_amid P [] r more h = h.0
 member_amid P (d ∷ done) r more h = member_amid P done r more h.1
 
@@ -150,11 +169,10 @@ same_end bytes at r s x y =
     omega (arith, e, a, b, m, n)
 
 -- where none are left, all are told
-pub all_reported : (looks : Bool) (profile : Profile) (bytes : List ℕ) (at : ℕ) (runs done left : List Run) (reported : List NdefItem) (taken place : ℕ) → AreItems looks profile bytes 0 done reported at → runs ≡ done ++ left → AreWalked bytes at left taken
-    → length left ≡ 0 → place ≡ taken → AreItems looks profile bytes 0 runs reported place
-all_reported looks profile bytes at runs done [] reported taken place a e w n p =
-    subst (λ rs. AreItems looks profile bytes 0 rs reported place) (sym (e ∙ append-nil done)) (subst (AreItems looks profile bytes 0 done reported) (w ∙ sym p) a)
-all_reported looks profile bytes at runs done (q ∷ left) reported taken place a e w n p = absurd (omega (arith, n))
+pub all_reported : (Is : ℕ → Run → NdefItem → Type 0) (bytes : List ℕ) (start at : ℕ) (runs done left : List Run) (reported : List NdefItem) (end : ℕ) → AreItems Is start done reported at → runs ≡ done ++ left → AreWalked bytes at left end → length left ≡ 0
+    → AreItems Is start runs reported end
+all_reported Is bytes start at runs done [] reported end a e w n = subst (λ rs. AreItems Is start rs reported end) (sym (e ∙ append-nil done)) (subst (AreItems Is start done reported) w a)
+all_reported Is bytes start at runs done (q ∷ left) reported end a e w n = absurd (omega (arith, n))
 
 -- what is said of a value, of the same words
 pub same_value : (looks : Bool) (profile : Profile) (k l a b p q : ℕ) (payload : List ℕ) (v w : Value) → l ≡ k → b ≡ a → q ≡ p → w ≡ v → HasValue looks profile k a p payload v → HasValue looks profile l b q payload w

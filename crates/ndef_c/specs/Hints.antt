@@ -17,7 +17,7 @@ use Rattle.ndef_c.specs.RefusalMessages.{GivesNone}
 use Rattle.ndef_c.specs.declared.hints.NdefFound.{NdefFound}
 use Rattle.ndef_c.specs.declared.hints.TheConstants.{HINT_ATTRIBUTES, HINT_BASE64, HINT_CODE, HINT_DIGITS, HINT_FILE}
 use Rattle.ndef_c.specs.declared.hints.TheConstants.{HINT_FLIPPER, HINT_HEXDUMP, HINT_INTERRUPTED, HINT_MESSAGE}
-use Rattle.ndef_c.specs.declared.hints.TheConstants.{HINT_PROXMARK, HINT_STANDARD, HINT_TERMINATOR, HINT_TLV, HINT_UNFINISHED}
+use Rattle.ndef_c.specs.declared.hints.TheConstants.{HINT_OD, HINT_PROXMARK, HINT_STANDARD, HINT_TERMINATOR, HINT_TLV, HINT_UNFINISHED}
 use Rattle.ndef_c.specs.declared.hints.TheConstants.{HINT_WORDS, HINT_XXD}
 
 -- NDEF 1.0, messages: no hint applies where the bytes are refused
@@ -59,6 +59,8 @@ abbrev pub dump_number : DumpText → ℕ
 dump_number texts.Digits = HINT_DIGITS
 dump_number texts.Xxd = HINT_XXD
 dump_number texts.Hexdump = HINT_HEXDUMP
+dump_number texts.Od = HINT_OD
+dump_number texts.Suppressed = HINT_OD
 dump_number texts.Words = HINT_WORDS
 dump_number texts.Flipper = HINT_FLIPPER
 dump_number texts.Proxmark = HINT_PROXMARK

@@ -1,10 +1,11 @@
 -- The kind of a record's payload, from its type.
-use Rattle.std.specs.Prelude.{◌==◌, ℕ, ◌≤◌, List, length, if◌then◌else◌}
+use Rattle.std.specs.Prelude.{◌==◌, ℕ, ◌≤◌, List, length, Option, Some, None, if◌then◌else◌}
 use Rattle.ndef_format.specs.Kinds.{kind_of, outer_kind}
 use Rattle.ndef_format.specs.Nested.{checked}
 use Rattle.ndef_format.specs.Records.{tnf_of}
 use Rattle.ndef_format.specs.declared.kind.Kind.{Kind}
 use Rattle.ndef_format.specs.declared.kind.Kind.TheVariants as kinds
+use Rattle.ndef_format.specs.declared.table.Table.{Table}
 use Rattle.ndef_format.specs.declared.table.Table.TheVariants as tables
 use Rattle.ndef_c.specs.AlternativeWrites.{IsPartWithin, part_of}
 use Rattle.ndef_c.specs.declared.part.NdefPart.{NdefPart}
@@ -26,15 +27,28 @@ kind_number kinds.Alternative = 10
 kind_number kinds.Collision = 11
 kind_number kinds.Error = 12
 
--- RTD Smart Poster 1.0 and Connection Handover 1.2: the kind of a record in a message of its own,
--- or in that within the payload of a poster, a request or a select; no other payload holds a
--- message
+-- RTD Smart Poster 1.0 and Connection Handover 1.2: the kind of payloads that hold this message
+abbrev pub kind_with : Table → Kind
+kind_with tables.SmartPoster = kinds.SmartPoster
+kind_with tables.Request = kinds.Request
+kind_with tables.Select = kinds.Select
+
+-- .. and the message that payloads of the kind with this number hold; others hold none
+abbrev pub table_within : ℕ → Option Table
+table_within within =
+    if within == kind_number kinds.SmartPoster then Some tables.SmartPoster
+    else (if within == kind_number kinds.Request then Some tables.Request
+    else (if within == kind_number kinds.Select then Some tables.Select else None))
+
+-- RTD Smart Poster 1.0 and Connection Handover 1.2: the kind of a record in that message
+abbrev pub kind_there : Option Table → Kind → Kind
+kind_there None kind = kinds.Other
+kind_there (Some table) kind = checked table kind
+
+-- .. or in a message of its own
 abbrev pub kind_within : ℕ → Kind → Kind
 kind_within within kind =
-    if within == kind_number kinds.Other then outer_kind kind
-    else (if within == kind_number kinds.SmartPoster then checked tables.SmartPoster kind
-    else (if within == kind_number kinds.Request then checked tables.Request kind
-    else (if within == kind_number kinds.Select then checked tables.Select kind else kinds.Other)))
+    if within == kind_number kinds.Other then outer_kind kind else kind_there (table_within within) kind
 
 -- where the type of a record lies
 abbrev pub type_part : NdefRecord → NdefPart

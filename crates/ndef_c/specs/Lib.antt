@@ -11,6 +11,7 @@ pub mod Contents
 pub mod ErrorWrites
 pub mod Errors
 pub mod Growing
+pub mod HandoverItems
 pub mod HandoverMaking
 pub mod HandoverParts
 pub mod HandoverWrites
@@ -36,6 +37,7 @@ pub mod RefusalMessages
 pub mod Runs
 pub mod RecordList
 pub mod RecordQuery
+pub mod ReferenceOrder
 pub mod Statuses
 pub mod Texts
 pub mod Titles

@@ -4,6 +4,7 @@ ghost use Rattle.ndef_format.specs.Handovers.{IsAlternative};
 ghost use Rattle.ndef_format.specs.Reasons.{NoReason};
 ghost use Rattle.ndef_types.specs.Values.{AcValue, StandsForAc};
 ghost use Rattle.ndef_c.specs.Alternatives.{HasNoReference, IsAlternativeAt, IsReferencePart, IsReferenceAt, LiesAt, reference_place, references};
+ghost use Rattle.ndef_c.specs.HandoverItems.{references_of};
 ghost use Rattle.ndef_c.specs.Payloads.{RefusesWith};
 
 use crate::checking::NdefChecked;
@@ -72,6 +73,15 @@ pub(crate) fn counted_at(payload: &[u8], at: usize) -> NdefPart
         at: at + 1,
         length: usize::from(payload[at]),
     }
+}
+
+/// The number of references of an alternative carrier.
+pub(crate) fn references_in(payload: &[u8]) -> usize
+    requires { IsAlternative payload.now }
+    ensures count { result ≡ references_of payload.now }
+    ensures few { result ≤ 256 }
+{
+    1 + usize::from(payload[2 + usize::from(payload[1])])
 }
 
 /// The auxiliary reference with an index of at most their count.

@@ -23,13 +23,13 @@ pub const HINT_FILE: u32 = 3;
 pub const HINT_MESSAGE: u32 = 4;
 /// The terminator of a tag's TLV blocks is in place of a message.
 pub const HINT_TERMINATOR: u32 = 5;
-/// The bytes are hexadecimal digits.
+/// The bytes are digits.
 pub const HINT_DIGITS: u32 = 6;
 /// The bytes are a dump by xxd.
 pub const HINT_XXD: u32 = 7;
 /// The bytes are a dump by hexdump -C.
 pub const HINT_HEXDUMP: u32 = 8;
-/// The bytes are a dump by od or hexdump, which may show numbers of two bytes.
+/// The bytes are a dump by od or hexdump of numbers of more than one byte.
 pub const HINT_WORDS: u32 = 9;
 /// The bytes are an NFC file of a Flipper.
 pub const HINT_FLIPPER: u32 = 10;
@@ -45,6 +45,8 @@ pub const HINT_STANDARD: u32 = 14;
 pub const HINT_INTERRUPTED: u32 = 15;
 /// A Type 3 Tag is being written: its message is not whole yet.
 pub const HINT_UNFINISHED: u32 = 16;
+/// The bytes are a dump by od -tx1.
+pub const HINT_OD: u32 = 17;
 
 /// What may help where bytes are refused, by numbers.
 #[repr(C)]
@@ -79,6 +81,7 @@ fn dump_number(text: DumpText) -> u32
         DumpText::Digits => HINT_DIGITS,
         DumpText::Xxd => HINT_XXD,
         DumpText::Hexdump => HINT_HEXDUMP,
+        DumpText::Od | DumpText::Suppressed => HINT_OD,
         DumpText::Words => HINT_WORDS,
         DumpText::Flipper => HINT_FLIPPER,
         DumpText::Proxmark => HINT_PROXMARK,

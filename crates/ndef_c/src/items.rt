@@ -1,30 +1,33 @@
-//! A message and all its records, in one call.
-ghost use Rattle.std.specs.Prelude.{◌≡◌, ◌≢◌, ◌+◌, ◌^◌, ◌<◌, ◌≤◌, ◌↔◌, ℕ, List, true, false, length};
+//! A message and all its records, in one call; the message within a payload, likewise.
+ghost use Rattle.std.specs.Prelude.{◌≡◌, ◌≢◌, ◌+◌, ◌^◌, ◌<◌, ◌≤◌, ◌↔◌, ◌⊎◌, ℕ, List, true, false, length, None, IfSome};
 ghost use Rattle.ndef_format.specs.Messages.{run_record};
-ghost use Rattle.ndef_format.specs.Payloads.{IsTypedPayload};
+ghost use Rattle.ndef_format.specs.Nested.{IsNest, table_of};
+ghost use Rattle.ndef_format.specs.Records.{Run};
 ghost use Rattle.ndef_format.specs.Texts.{IsText};
 ghost use Rattle.ndef_format.specs.Uris.{IsUri};
-ghost use Rattle.ndef_format.specs.Accepted.{IsMember};
-ghost use Rattle.ndef_format.specs.Limits.{LimitValues};
 ghost use Rattle.ndef_format.specs.declared.kind.Kind.TheVariants as kinds;
-ghost use Rattle.ndef_format.specs.declared.profile.Profile.{Profile};
+ghost use Rattle.ndef_format.specs.declared.profile.Profile.{Profile as Reader};
+ghost use Rattle.ndef_value.specs.declared.limits.TheConstants.{MOST_RECORDS};
 ghost use Rattle.ndef_c.specs.Arrays.{set_over};
-ghost use Rattle.ndef_c.specs.Checks.{ChecksPayloads, LeavesPayloads, TakesMessage, limits_of};
-ghost use Rattle.ndef_c.specs.Items.{AreItems, AreTyped, GivesItems, HasValue, IsItemAt, IsTextValue, IsUriValue, IsValueOf, MayHaveItems, MayHaveValue, Repeats, no_value, value_of};
-ghost use Rattle.ndef_c.specs.Kinds.{kind_number};
+ghost use Rattle.ndef_c.specs.Checks.{ChecksPayloads, LeavesPayloads, limits_of, profile_of};
+ghost use Rattle.ndef_c.specs.Items.{AreItems, AreListed, AreTyped, GivesItems, GivesNested, GivesWithin, HasValue, IsItemAt, IsTextValue, IsUriValue, IsValueOf, MayBeItem, MayHaveItems, MayHaveValue, Repeats, message_at, no_value, value_of};
+ghost use Rattle.ndef_c.specs.Kinds.{kind_number, kind_with, table_within};
 ghost use Rattle.ndef_c.specs.Walks.{IsRecordAt};
 ghost use Rattle.ndef_c.specs.declared.items.NdefItem.{NdefItem as Reported};
 
 use crate::checking::{NdefChecked, check_in};
-use crate::kinds::ndef_kind;
-use crate::limits::{NdefLimits, limits_of};
+use crate::kinds::{ndef_kind, number_of, table_within};
+use crate::limits::{NdefLimits, limits_of, profile_of};
+use crate::query::{Expected, count_expected};
 use crate::record::{NdefRecord, record_at};
+use crate::refusal::refuse;
 use crate::status::{BAD_ARGUMENT, BUFFER_TOO_SMALL, OK};
 use crate::text::text_at;
 use crate::uri_parts::uri_at;
 use ndef_lang::{Kind, Opaque, RecordLanguage};
-use ndef_nest::Typed;
-use ndef_value::Limits;
+use ndef_nest::{Nest, Table, Typed};
+use ndef_types::accept;
+use ndef_value::{Limits, Profile, Tnf};
 
 /// A record, by offsets and lengths in the bytes. Its id lies between its type and its payload, so at `payload_at` -
 /// `id_length`.
@@ -37,7 +40,7 @@ pub struct NdefItem {
     pub end: u32,
     /// The type name format, 0 to 5.
     pub tnf: u32,
-    /// The number of its kind, as `ndef_kind` gives it for a record in a message of its own.
+    /// The number of its kind, as `ndef_kind` gives it for a record in this message.
     pub kind: u32,
     /// Where its type begins.
     pub type_at: u32,
@@ -110,9 +113,9 @@ fn text_value(at: usize, payload: &[u8]) -> Value
 
 /// The code and the rest of the URI in a payload that begins at a place.
 fn uri_value(at: usize, payload: &[u8]) -> Value
-    requires uri { (profile : Profile) × IsUri profile payload.now }
+    requires uri { (profile : Reader) × IsUri profile payload.now }
     requires fits { at + length payload.now < 2 ^ 32 }
-    ensures { (profile : Profile) → IsUri profile payload.now → IsUriValue profile at payload.now result }
+    ensures { (profile : Reader) → IsUri profile payload.now → IsUriValue profile at payload.now result }
 {
     let uri = uri_at(payload);
     Value {
@@ -127,9 +130,9 @@ fn uri_value(at: usize, payload: &[u8]) -> Value
 
 /// The value of a payload of a kind that begins at a place.
 fn value_in(kind: u32, at: usize, payload: &[u8]) -> Value
-    requires may { MayHaveValue kind payload.now }
+    requires may { (profile : Reader) × MayHaveValue profile kind payload.now }
     requires fits { at + length payload.now < 2 ^ 32 }
-    ensures { (profile : Profile) → (kind ≡ kind_number kinds.Uri → IsUri profile payload.now)
+    ensures { (profile : Reader) → MayHaveValue profile kind payload.now
         → IsValueOf profile kind at payload.now result }
 {
     if kind == Kind::Text as u32 {
@@ -144,10 +147,10 @@ fn value_in(kind: u32, at: usize, payload: &[u8]) -> Value
 /// The value of a record of a kind.
 fn value_at(bytes: &[u8], found: &NdefRecord, kind: u32, looks: bool) -> Value
     requires short { length bytes.now < 2 ^ 32 }
-    requires found { (at : ℕ) × (r : IsRecordAt bytes.now at found.now)
-        × (looks ≡ true → MayHaveValue kind (run_record r.run).payload) }
-    ensures { (profile : Profile) (at : ℕ) → (r : IsRecordAt bytes.now at found.now)
-        → (looks ≡ true → kind ≡ kind_number kinds.Uri → IsUri profile (run_record r.run).payload)
+    requires found { (profile : Reader) × (at : ℕ) × (r : IsRecordAt bytes.now at found.now)
+        × (looks ≡ true → MayHaveValue profile kind (run_record r.run).payload) }
+    ensures { (profile : Reader) (at : ℕ) → (r : IsRecordAt bytes.now at found.now)
+        → (looks ≡ true → MayHaveValue profile kind (run_record r.run).payload)
         → HasValue looks profile kind found.now.payload_at found.now.chunks (run_record r.run).payload result }
 {
     if !looks || found.chunks != 1 {
@@ -190,45 +193,48 @@ fn in_words(found: &NdefRecord, kind: u32, value: &Value) -> NdefItem
     }
 }
 
+/// The bytes in which a message lies, and what is given of its records.
+#[derive(Clone, Copy)]
+struct Listing<'a> {
+    bytes: &'a [u8],
+    /// The number of the kind of payload that they are, 0 for a message of its own.
+    within: u32,
+    /// Whether its payloads were checked, so that values are given.
+    looks: bool,
+}
+
 /// The item of a record.
-fn item_of(bytes: &[u8], found: &NdefRecord, looks: bool) -> NdefItem
-    requires short { length bytes.now < 2 ^ 32 }
-    requires found { (at : ℕ) × (r : IsRecordAt bytes.now at found.now)
-        × (looks ≡ true → (limits : LimitValues) × IsMember IsTypedPayload limits (run_record r.run)) }
-    ensures { (limits : LimitValues) (at : ℕ) → (r : IsRecordAt bytes.now at found.now)
-        → (looks ≡ true → IsMember IsTypedPayload limits (run_record r.run))
-        → IsItemAt looks limits.profile bytes.now at r.run result }
+fn item_of(message: &Listing<'_>, found: &NdefRecord) -> NdefItem
+    requires short { length message.now.bytes.now < 2 ^ 32 }
+    requires found { (profile : Reader) × (at : ℕ) × (r : IsRecordAt message.now.bytes.now at found.now)
+        × MayBeItem message.now.looks message.now.within profile (run_record r.run) }
+    ensures { (profile : Reader) (at : ℕ) → (r : IsRecordAt message.now.bytes.now at found.now)
+        → MayBeItem message.now.looks message.now.within profile (run_record r.run)
+        → IsItemAt message.now.looks message.now.within profile message.now.bytes.now at r.run result }
 {
-    let kind = ndef_kind(bytes, found, 0);
-    let value = value_at(bytes, found, kind, looks);
+    let kind = ndef_kind(message.bytes, found, message.within);
+    let value = value_at(message.bytes, found, kind, message.looks);
     in_words(found, kind, &value)
 }
 
-/// Writes the records of a message that a check took to the front of the array.
-fn tell_items<L: RecordLanguage>(
-    bytes: &[u8],
-    limits: Limits,
-    looks: bool,
-    checked: &NdefChecked,
-    items: &mut [NdefItem],
-)
-    requires short { length bytes.now < 2 ^ 32 }
-    requires typed { looks ≡ true → AreTyped L.payloads }
-    requires message { TakesMessage L.payloads L.reasons limits bytes.now checked.now }
-    requires buffer { checked.now.records ≤ length items.old }
-    ensures { (t : TakesMessage L.payloads L.reasons limits bytes.now checked.now)
-        × (reported : List Reported) × AreItems looks limits.profile bytes.now 0 t.viewed.runs reported
-        checked.now.place
-        × (length reported ≡ length t.viewed.runs) × (items.new ≡ set_over reported items.old) }
+/// Writes the records of a message that begins at a place to the front of the array.
+fn tell_items(message: &Listing<'_>, start: usize, records: usize, items: &mut [NdefItem])
+    requires short { length message.now.bytes.now < 2 ^ 32 }
+    requires listed { (profile : Reader) × (runs : List Run) × (end : ℕ)
+        × AreListed profile message.now start runs end × (length runs ≡ records) }
+    requires buffer { records ≤ length items.old }
+    ensures { (profile : Reader) (runs : List Run) (end : ℕ) → AreListed profile message.now start runs end
+        → length runs ≡ records → (reported : List Reported)
+        × AreItems (IsItemAt message.now.looks message.now.within profile message.now.bytes.now) start runs reported end
+        × (length reported ≡ length runs) × (items.new ≡ set_over reported items.old) }
 {
-    let records = checked.records as usize;
-    let mut at = 0;
+    let mut at = start;
     let mut index = 0;
     while index < records {
-        let Some(found) = record_at(bytes, at) else {
+        let Some(found) = record_at(message.bytes, at) else {
             unreachable!()
         };
-        items[index] = item_of(bytes, &found, looks);
+        items[index] = item_of(message, &found);
         at = found.end;
         index += 1;
     }
@@ -252,10 +258,16 @@ fn give_items<L: RecordLanguage>(
     if checked != OK {
         return checked;
     }
-    if items.len() < out.records as usize {
+    let records = out.records as usize;
+    if items.len() < records {
         return BUFFER_TOO_SMALL;
     }
-    tell_items::<L>(bytes, limits, looks, out, items);
+    let message = Listing {
+        bytes,
+        within: 0,
+        looks,
+    };
+    tell_items(&message, 0, records, items);
     OK
 }
 
@@ -296,5 +308,103 @@ pub extern "C" fn ndef_items(
         give_items::<Typed>(bytes, limits, true, out, items)
     } else {
         give_items::<Opaque>(bytes, limits, false, out, items)
+    }
+}
+
+/// All records.
+struct All;
+
+impl Expected for All {
+    ghost expected = { λ tnf kind. true };
+
+    fn is_expected(_tnf: Tnf, _kind: &[u8]) -> bool {
+        true
+    }
+}
+
+/// Where the message begins in a payload that holds one.
+fn message_at(table: Table) -> usize
+    ensures { result ≡ message_at table }
+{
+    match table {
+        Table::SmartPoster => 0,
+        Table::Request | Table::Select => 1,
+    }
+}
+
+/// The kind of payloads that hold a message.
+pub(crate) fn kind_with(table: Table) -> Kind
+    ensures kind { result ≡ kind_with table }
+    ensures table { table_of result ≡ table }
+{
+    match table {
+        Table::SmartPoster => Kind::SmartPoster,
+        Table::Request => Kind::Request,
+        Table::Select => Kind::Select,
+    }
+}
+
+/// Writes the records of the message within a payload, if the array is large enough.
+fn give_nested(table: Table, payload: &[u8], out: &mut NdefChecked, items: &mut [NdefItem]) -> u32
+    requires nest { (profile : Reader) × IsNest table MOST_RECORDS profile payload.now }
+    requires short { length payload.now < 2 ^ 32 }
+    ensures gives { (profile : Reader) → IsNest table MOST_RECORDS profile payload.now
+        → GivesNested table profile payload.now items.old items.new result out.new }
+    ensures kept { result ≢ OK → items.new ≡ items.old }
+    ensures good { result ≢ BAD_ARGUMENT }
+{
+    let start = message_at(table);
+    let (_version, message) = payload.split_at(start);
+    let count = count_expected::<All>(message);
+    *out = NdefChecked {
+        place: payload.len() as u64,
+        records: count as u32,
+        reason: 0,
+    };
+    if items.len() < count {
+        return BUFFER_TOO_SMALL;
+    }
+    let listing = Listing {
+        bytes: payload,
+        within: number_of(kind_with(table)),
+        looks: true,
+    };
+    tell_items(&listing, start, count, items);
+    OK
+}
+
+/// Checks the payload of a Smart Poster, a Handover Request or a Handover Select record, and gives all records of the
+/// message within it, as `ndef_items` gives those of a message: by offsets in the payload, and with the kinds that
+/// `ndef_kind` gives within a payload of that kind. `kind` is the number of the kind. A call with no items says how
+/// many there are.
+///
+/// - `OK`: the first `out->records` items are the records of the message, and `out->place` is the length of the
+///   payload.
+/// - `BUFFER_TOO_SMALL`: the payload is accepted, and there are fewer than `out->records` items; they are unchanged.
+/// - `REFUSED`: the payload is none of the kind: `out` says where and why. The items are unchanged.
+/// - `BAD_ARGUMENT`: payloads of the kind hold no message, or an unknown flag is set; nothing is written.
+#[unsafe(no_mangle)]
+pub extern "C" fn ndef_items_within(
+    kind: u32,
+    payload: &[u8],
+    flags: u32,
+    out: &mut NdefChecked,
+    items: &mut [NdefItem],
+) -> u32
+    ensures bad { result ≡ BAD_ARGUMENT ↔ ((table_within kind ≡ None) ⊎ (1 < flags)) }
+    ensures kept { result ≡ BAD_ARGUMENT → out.new ≡ out.old }
+    ensures unchanged { result ≢ OK → items.new ≡ items.old }
+    ensures gives { result ≢ BAD_ARGUMENT → IfSome (table_within kind) (λ table.
+        GivesWithin table (profile_of flags) payload.now items.old items.new result out.new) }
+{
+    if flags > 1 {
+        return BAD_ARGUMENT;
+    }
+    let Some(table) = table_within(kind) else {
+        return BAD_ARGUMENT;
+    };
+    match accept::<Nest>(kind_with(table), profile_of(flags), payload) {
+        Ok(()) => give_nested(table, payload, out, items),
+        Err(found) => refuse(found, out),
     }
 }

@@ -2,7 +2,7 @@
 ghost use Rattle.std.specs.Prelude.{◌≡◌, ◌≤◌, ℕ};
 ghost use Rattle.ndef_format.specs.Kinds.{kind_of};
 ghost use Rattle.ndef_format.specs.Messages.{run_record};
-ghost use Rattle.ndef_c.specs.Kinds.{HasType, kind_number, kind_within, type_kind};
+ghost use Rattle.ndef_c.specs.Kinds.{HasType, kind_number, kind_within, table_within, type_kind};
 ghost use Rattle.ndef_c.specs.Walks.{IsRecordAt};
 
 use crate::part::NdefPart;
@@ -13,11 +13,23 @@ use ndef_lang::Kind;
 use ndef_nest::Table;
 
 /// The number of a kind.
-fn number_of(kind: Kind) -> u32
+pub(crate) fn number_of(kind: Kind) -> u32
     ensures number { result ≡ kind_number kind }
     ensures bound { result ≤ 12 }
 {
     kind as u32
+}
+
+/// The message within payloads of the kind with a number, if they hold one.
+pub(crate) fn table_within(within: u32) -> Option<Table>
+    ensures { result ≡ table_within within }
+{
+    match within {
+        3 => Some(Table::SmartPoster),
+        4 => Some(Table::Request),
+        5 => Some(Table::Select),
+        _ => None,
+    }
 }
 
 /// The kind of a record in a message, by the kind of its type; `within` is the number of the kind of payload that
@@ -25,12 +37,12 @@ fn number_of(kind: Kind) -> u32
 fn kind_within(within: u32, kind: Kind) -> Kind
     ensures { result ≡ kind_within within kind }
 {
-    match within {
-        0 => kind.outer(),
-        3 => Table::SmartPoster.checked(kind),
-        4 => Table::Request.checked(kind),
-        5 => Table::Select.checked(kind),
-        _ => Kind::Other,
+    if within == 0 {
+        return kind.outer();
+    }
+    match table_within(within) {
+        Some(table) => table.checked(kind),
+        None => Kind::Other,
     }
 }
 

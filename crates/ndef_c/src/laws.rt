@@ -2,8 +2,10 @@
 ghost use Rattle.ndef_c.specs.Feeding.{FeedsAreChecks};
 ghost use Rattle.ndef_c.specs.Fields.{OneFieldWith, StepsLeadOn};
 ghost use Rattle.ndef_c.specs.Growing.{FirstIsHeld, HeldAreAMessage, OthersAreHeld};
+ghost use Rattle.ndef_c.specs.HandoverItems.{LinksAreItems, ReferencesAreItems};
 ghost use Rattle.ndef_c.specs.HandoverMaking.{WrittenRequestsAreRead, WrittenSelectsAreRead};
 ghost use Rattle.ndef_c.specs.Links.{LinksAreExact};
+ghost use Rattle.ndef_c.specs.Numbers.{NumbersAreRefused};
 ghost use Rattle.ndef_c.specs.PosterWrites.{WrittenPostersAreRead};
 ghost use Rattle.ndef_c.specs.Walks.{ChecksAreWalked, OneRecordIsThere};
 ghost use Rattle.ndef_c.specs.Writers.{WritersWriteRecords};
@@ -71,6 +73,20 @@ pub fn links_are_exact<L: RecordLanguage>()
     strict_contents_are_read();
     alternatives_are_exact();
 }
+
+/// A reference of `ndef_handover_items` lies in the payload of its carrier where `ndef_reference` and `ndef_references`
+/// say, and the link of `ndef_links` at the offset of a carrier has the record to which its first reference refers.
+pub fn handover_items_are_exact()
+    ensures references { ReferencesAreItems }
+    ensures links { LinksAreItems }
+{
+    alternatives_are_exact();
+}
+
+/// A payload that `ndef_number` refuses is refused, at that offset and for that reason, as a payload of its kind.
+pub fn numbers_are_refused()
+    ensures { NumbersAreRefused }
+{}
 
 /// If fields follow one another without a gap, the byte at an offset is in exactly one of them, and the byte after a
 /// field is in the next: so `ndef_next_field` steps from each to the one after it.

@@ -12,7 +12,11 @@
 //! - `refusal_message.rt`, `specs/RefusalMessages.antt`: the reason of a refusal, in sentences. `hints.rt`,
 //!   `specs/Hints.antt`: hints, in sentences and by numbers. `warnings.rt`, `specs/Warnings.antt`: warnings about
 //!   a message that is accepted.
-//! - `items.rt`, `specs/Items.antt`: a message and all its records, in one call.
+//! - `items.rt`, `specs/Items.antt`: a message and all its records, in one call; the message within a payload,
+//!   likewise.
+//! - `handover_items.rt`, `specs/HandoverItems.antt`: a handover and all its references, in one call.
+//!   `reference_items.rt`: the references in its payload. `reference_records.rt`, `specs/ReferenceOrder.antt`: the
+//!   records to which they refer.
 //! - `layout.rt`, `specs/Layouts.antt`: payloads of a layout that a program gives.
 //! - `finding.rt`, `specs/Finding.antt`: the first record with a type or an id.
 //! - `writer.rt`, `specs/Writers.antt`: a record written in steps.
@@ -26,7 +30,7 @@
 //!   `specs/HandoverParts.antt`: its alternative carriers.
 //! - `normalizing.rt`, `specs/Normalizing.antt`: a message written again, each record in one piece.
 //! - `uri.rt`, `uri_parts.rt`, `text.rt`, `carrier.rt`, `alternative.rt`, `request.rt`, `select.rt`, `poster.rt`,
-//!   `error.rt`: payloads of each kind. `numbers.rt` and `alternative_writing.rt`, `error_writing.rt`,
+//!   `error.rt`, `numbers.rt`: payloads of each kind. `alternative_writing.rt`, `error_writing.rt`,
 //!   `handover_writing.rt`: those of records within posters and handovers, written.
 //! - `titles.rt`, `specs/Titles.antt`: the places of the titles and of the media type of a poster.
 //! - `icons.rt`, `specs/Icons.antt`: the places of the icons of a poster.
@@ -57,6 +61,7 @@ mod field_names;
 mod fields;
 mod finding;
 mod handover;
+mod handover_items;
 mod handover_making;
 mod handover_parts;
 mod handover_writing;
@@ -85,6 +90,8 @@ mod query;
 mod reasons;
 mod record;
 mod record_list;
+mod reference_items;
+mod reference_records;
 mod references;
 mod refusal;
 mod refusal_message;
@@ -133,6 +140,8 @@ pub use fields::ndef_fields;
 pub use fields::ndef_next_field;
 pub use finding::ndef_find_id;
 pub use finding::ndef_find_type;
+pub use handover_items::NdefHandoverParts;
+pub use handover_items::ndef_handover_items;
 pub use handover_making::NdefSelectWriting;
 pub use handover_making::ndef_write_request;
 pub use handover_making::ndef_write_select;
@@ -149,6 +158,7 @@ pub use hints::HINT_FLIPPER;
 pub use hints::HINT_HEXDUMP;
 pub use hints::HINT_INTERRUPTED;
 pub use hints::HINT_MESSAGE;
+pub use hints::HINT_OD;
 pub use hints::HINT_PROXMARK;
 pub use hints::HINT_STANDARD;
 pub use hints::HINT_TERMINATOR;
@@ -163,13 +173,16 @@ pub use icons::NdefIcon;
 pub use icons::ndef_poster_icons;
 pub use items::NdefItem;
 pub use items::ndef_items;
+pub use items::ndef_items_within;
 pub use kinds::ndef_kind;
 pub use laws::appended_records_are_held;
 pub use laws::checks_are_walked;
 pub use laws::feeds_are_checks;
 pub use laws::fields_are_stepped;
+pub use laws::handover_items_are_exact;
 pub use laws::held_records_are_a_message;
 pub use laws::links_are_exact;
+pub use laws::numbers_are_refused;
 pub use laws::one_record_is_there;
 pub use laws::records_make_a_message;
 pub use laws::writers_write_records;
@@ -189,6 +202,7 @@ pub use link::NdefLink;
 pub use link::ndef_link_at;
 pub use links::ndef_links;
 pub use normalizing::ndef_normalize;
+pub use numbers::ndef_number;
 pub use numbers::ndef_write_action;
 pub use numbers::ndef_write_collision;
 pub use numbers::ndef_write_size;
@@ -205,6 +219,7 @@ pub use reasons::ndef_reason_name;
 pub use reasons::ndef_reason_sentence;
 pub use record::NdefRecord;
 pub use record::ndef_record_at;
+pub use reference_items::NdefReferenceItem;
 pub use references::ndef_references;
 pub use refusal_message::ndef_refusal_message;
 pub use request::NdefRequest;

@@ -52,7 +52,7 @@ pub(crate) fn is_alternative(tnf: Tnf, kind: &[u8]) -> bool
 }
 
 /// The alternative carriers of a message.
-struct Carriers;
+pub(crate) struct Carriers;
 
 impl Expected for Carriers {
     ghost expected = { λ tnf kind. is_alternative (kind_of tnf kind) };

@@ -1,6 +1,5 @@
 //! The payloads of Smart Poster records (RTD Smart Poster 1.0).
 ghost use Rattle.std.specs.Prelude.{◌≡◌, ◌≢◌, ◌<◌, ◌^◌, ◌↔◌, ◌⊎◌, List, length, option_map, Some};
-ghost use Rattle.std.specs.Int.{w32, from_be_bytes};
 ghost use Rattle.ndef_format.specs.Messages.{Item};
 ghost use Rattle.ndef_format.specs.declared.profile.Profile.{Profile};
 ghost use Rattle.ndef_value.specs.declared.limits.TheConstants.{MOST_RECORDS};
@@ -18,6 +17,7 @@ ghost use Rattle.ndef_c.specs.Posters.{IsPosterAt, HasPosterRecords};
 use crate::checking::NdefChecked;
 use crate::limits::profile_of;
 use crate::nested::{Found, first_of};
+use crate::numbers::number_in;
 use crate::refusal::refuse;
 use crate::status::{BAD_ARGUMENT, OK, REFUSED};
 use ndef_lang::Kind;
@@ -66,17 +66,6 @@ fn action_of(payload: &[u8]) -> Option<u32>
     Some(u32::from(found.payload[0]))
 }
 
-/// The number of four octets, most significant first.
-fn number_of(octets: &[u8]) -> u32
-    requires { length octets.now ≡ 4 }
-    ensures { result ≡ from_be_bytes w32 octets.now }
-{
-    match octets {
-        [a, b, c, d] => u32::from_be_bytes([*a, *b, *c, *d]),
-        _ => unreachable!(),
-    }
-}
-
 /// Returns the size of its first size record.
 fn size_of(payload: &[u8]) -> Option<u32>
     requires { (profile : Profile) × (items : List Item) × HasPosterRecords profile items payload.now }
@@ -86,7 +75,7 @@ fn size_of(payload: &[u8]) -> Option<u32>
     let Some(found) = first_of(Table::SmartPoster, payload, Kind::Size) else {
         return None;
     };
-    Some(number_of(found.payload))
+    number_in(Kind::Size, found.payload)
 }
 
 /// 1 and a number, or 0 and 0 for none.

@@ -57,7 +57,7 @@ pub(crate) trait RecordQuery: Expected {
 }
 
 /// Whether a record is wanted, by its type.
-fn wants<W: Expected>(bytes: &[u8], found: &NdefRecord) -> bool
+pub(crate) fn wants<W: Expected>(bytes: &[u8], found: &NdefRecord) -> bool
     requires { (at : ℕ) × IsRecordAt bytes.now at found.now }
     ensures { (at : ℕ) → (r : IsRecordAt bytes.now at found.now) → result ≡ has_type W.expected (run_record r.run) }
 {

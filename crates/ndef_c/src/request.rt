@@ -1,6 +1,5 @@
 //! The payloads of Handover Request records (Connection Handover 1.2).
 ghost use Rattle.std.specs.Prelude.{◌≡◌, ◌≢◌, ◌<◌, ◌^◌, ◌↔◌, ◌⊎◌, List, length};
-ghost use Rattle.std.specs.Int.{w16, from_be_bytes};
 ghost use Rattle.ndef_format.specs.Messages.{Item};
 ghost use Rattle.ndef_format.specs.declared.profile.Profile.{Profile};
 ghost use Rattle.ndef_value.specs.declared.limits.TheConstants.{MOST_RECORDS};
@@ -16,6 +15,7 @@ use crate::checking::NdefChecked;
 use crate::handover::{after_version, version_of};
 use crate::limits::profile_of;
 use crate::nested::{alternatives_in, first_of};
+use crate::numbers::number_in;
 use crate::refusal::refuse;
 use crate::status::{BAD_ARGUMENT, OK, REFUSED};
 use ndef_lang::Kind;
@@ -36,17 +36,6 @@ pub struct NdefRequest {
     pub collision: u32,
 }
 
-/// The number of two octets, most significant first.
-fn number_of(octets: &[u8]) -> u16
-    requires { length octets.now ≡ 2 }
-    ensures { result ≡ from_be_bytes w16 octets.now }
-{
-    match octets {
-        [a, b] => u16::from_be_bytes([*a, *b]),
-        _ => unreachable!(),
-    }
-}
-
 /// The random number of the first record of a request.
 fn collision_of(message: &[u8]) -> u32
     requires { (profile : Profile) × (items : List Item)
@@ -54,14 +43,17 @@ fn collision_of(message: &[u8]) -> u32
     ensures { (profile : Profile) (items : List Item) → AreHandoverContents tables.Request profile items message.now
         → IsCollisionOf items result }
 {
-    match first_of(Table::Request, message, Kind::Collision) {
-        Some(found) => u32::from(number_of(found.payload)),
-        None => unreachable!(),
-    }
+    let Some(found) = first_of(Table::Request, message, Kind::Collision) else {
+        unreachable!()
+    };
+    let Some(number) = number_in(Kind::Collision, found.payload) else {
+        unreachable!()
+    };
+    number
 }
 
 /// The version of a request, its random number and its number of alternative carriers.
-fn request_at(payload: &[u8]) -> NdefRequest
+pub(crate) fn request_at(payload: &[u8]) -> NdefRequest
     requires nest { (profile : Profile) × IsNest tables.Request MOST_RECORDS profile payload.now }
     requires short { length payload.now < 2 ^ 32 }
     ensures { (profile : Profile) → IsNest tables.Request MOST_RECORDS profile payload.now

@@ -81,7 +81,7 @@ fn error_in(payload: &[u8]) -> Detail
 }
 
 /// The version of a select, its first error and its number of alternative carriers.
-fn select_at(payload: &[u8]) -> NdefSelect
+pub(crate) fn select_at(payload: &[u8]) -> NdefSelect
     requires nest { (profile : Profile) × IsNest tables.Select MOST_RECORDS profile payload.now }
     requires short { length payload.now < 2 ^ 32 }
     ensures { (profile : Profile) → IsNest tables.Select MOST_RECORDS profile payload.now

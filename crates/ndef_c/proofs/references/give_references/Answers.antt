@@ -1,6 +1,6 @@
 use Rattle.std.proofs.Common.{arith}
 use Rattle.ndef_c.proofs.Alternatives.{ac_at, names_count}
-use Rattle.ndef_c.proofs.Filled.{no_room_for, room_for}
+use Rattle.ndef_c.proofs.Filled.{is_too_small, is_enough}
 use Rattle.ndef_c.proofs.references.give_references.Goals as goal
 
 pub returns-then-parts-needed : goal.returns-then-parts-needed
@@ -14,7 +14,7 @@ returns-then-parts-needed c =
       short = c.requires.short;
       alternative = v.0;
       stands = v.1.1;
-      gives = no_room_for _ _ _ _ (omega (arith, n, k)) c.if-parts-needed.true;
+      gives = is_too_small _ _ _ _ (omega (arith, n, k)) c.if-parts-needed.true;
     }
 
 pub returns : goal.returns
@@ -30,5 +30,5 @@ returns c =
       short = c.requires.short;
       alternative = v.0;
       stands = v.1.1;
-      gives = room_for _ _ _ _ _ (omega (arith, n, k)) (omega (arith, l)) t.0 t.1 t.2 t.3;
+      gives = is_enough _ _ _ _ _ (omega (arith, n, k)) (omega (arith, l)) t.0 t.1 t.2 t.3;
     }
