@@ -1,10 +1,14 @@
 pub mod Bounded
 pub mod Carriers
 pub mod Chooses
+pub mod Counting
 pub mod Digits
 pub mod Handling
+pub mod Ids
 pub mod Lines
 pub mod Members
 pub mod OneText
 pub mod Outputs
+pub mod Posters
 pub mod Sessions
+pub mod Walking

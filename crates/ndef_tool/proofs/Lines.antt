@@ -42,7 +42,7 @@ records_after profile number (j ∷ items) i done line are is =
       ap (λ t. t ++ line) are.4 ∙ append_assoc are.0 are.1 line,
     )
 
-take_grows : {A : Type 0} (items : List A) (n : ℕ) (i : A) → n < length items → slice_get items n ≡ Some i → take (n + 1) items ≡ take n items ++ i ∷ []
+pub take_grows : {A : Type 0} (items : List A) (n : ℕ) (i : A) → n < length items → slice_get items n ≡ Some i → take (n + 1) items ≡ take n items ++ i ∷ []
 take_grows items n i l e = take_more items n i l ∙ ap (λ j. take n items ++ j ∷ []) (get_or_from_slice_get items n i i e)
 
 -- one record more
@@ -51,46 +51,3 @@ pub records_on : (profile : Profile) (items : List Item) (n : ℕ) (i : Item) (d
 records_on profile items n i done line l e are is =
     let number : 1 + length (take n items) ≡ n + 1 = omega (arith, length-take n items) in
     rw (take_grows items n i l e) (records_after profile 1 (take n items) i done line are (rw number is))
-
-links_after : (number : ℕ) (links : List Link) (link : Link) → link_lines number (links ++ link ∷ []) ≡ link_lines number links ++ link_line (number + length links) link
-links_after number [] link =
-    let n : number + 0 ≡ number = omega arith in
-    rw n (append-nil (link_line number link))
-links_after number (l ∷ links) link =
-    let n : number + length (l ∷ links) ≡ number + 1 + length links = omega arith in
-    rw n (ap (λ t. link_line number l ++ t) (links_after (number + 1) links link) ∙ sym (append_assoc (link_line number l) (link_lines (number + 1) links) (link_line (number + 1 + length links) link)))
-
--- one link more
-pub links_on : (links : List Link) (n : ℕ) (link : Link) → n < length links → slice_get links n ≡ Some link
-    → link_lines 1 (take (n + 1) links) ≡ link_lines 1 (take n links) ++ link_line (n + 1) link
-links_on links n link l e =
-    let number : 1 + length (take n links) ≡ n + 1 = omega (arith, length-take n links) in
-    ap (link_lines 1) (take_grows links n link l e) ∙ links_after 1 (take n links) link ∙ ap (λ k. link_lines 1 (take n links) ++ link_line k link) number
-
-alternatives_on : (items : List Item) (n : ℕ) (i : Item) → n < length items → slice_get items n ≡ Some i
-    → alternatives (take (n + 1) items) ≡ alternatives (take n items) ++ (if is_alternative (kind_of i.tnf i.kind) then i ∷ [] else [])
-alternatives_on items n i l e =
-    filter_more (λ j. is_alternative (kind_of j.tnf j.kind)) items n i l
-    ∙ ap (λ j. alternatives (take n items) ++ (if is_alternative (kind_of j.tnf j.kind) then j ∷ [] else [])) (get_or_from_slice_get items n i i e)
-
--- one record more among which alternative carriers are counted
-pub counted_on : (items : List Item) (n : ℕ) (i : Item) → n < length items → slice_get items n ≡ Some i → is_alternative (kind_of i.tnf i.kind) ≡ true
-    → length (alternatives (take (n + 1) items)) ≡ length (alternatives (take n items)) + 1
-counted_on items n i l e k =
-    let more : alternatives (take (n + 1) items) ≡ alternatives (take n items) ++ i ∷ [] =
-    alternatives_on items n i l e ∙ ap (λ b. alternatives (take n items) ++ (if b then i ∷ [] else [])) k in
-    ap length more ∙ length-append (alternatives (take n items)) (i ∷ [])
-
-pub counted_off : (items : List Item) (n : ℕ) (i : Item) → n < length items → slice_get items n ≡ Some i → is_alternative (kind_of i.tnf i.kind) ≡ false
-    → length (alternatives (take (n + 1) items)) ≡ length (alternatives (take n items))
-counted_off items n i l e k =
-    let more : alternatives (take (n + 1) items) ≡ alternatives (take n items) ++ [] =
-    alternatives_on items n i l e ∙ ap (λ b. alternatives (take n items) ++ (if b then i ∷ [] else [])) k in
-    ap length (more ∙ append-nil (alternatives (take n items)))
-
--- a title for each record that is one
-pub titles_counted : (items : List Item) (values : List TextValue) → StandForTexts items values → length values ≡ length items
-titles_counted [] [] h = refl
-titles_counted [] (v ∷ values) h = absurd h
-titles_counted (i ∷ items) [] h = absurd h
-titles_counted (i ∷ items) (v ∷ values) h = let rest = titles_counted items values h.1 in omega (arith, rest)

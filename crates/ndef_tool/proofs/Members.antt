@@ -1,14 +1,10 @@
--- Payloads that are not refused.
-use Rattle.std.proofs.Common.{ℕ, ◌+◌, ◌<◌, ◌≤◌, ◌^◌, List, [], ◌∷◌, length, drop, sym, subst, arith, inl, inr, length-drop, Option, Ok, Bool}
-use Rattle.std.proofs.lemmas.List.{take-append-drop}
+-- The payloads of the records that are read.
+use Rattle.std.proofs.Common.{ℕ, ◌≤◌, List, [], ◌∷◌, arith, inl, inr, Option, Ok, Bool}
 use Rattle.std.specs.List.{AllByRecursion}
 use Rattle.ndef_format.specs.Limits.{AreInRange, LimitValues}
 use Rattle.ndef_format.specs.Messages.{Item}
 use Rattle.ndef_format.specs.declared.profile.Profile.{Profile}
-use Rattle.ndef_format.specs.declared.reason.Reason.{Reason}
-use Rattle.ndef_format.specs.declared.refusal.Refusal.{Refusal}
 use Rattle.ndef_format.specs.Kinds.{kind_of}
-use Rattle.ndef_lang.specs.Place.{CanEnd}
 use Rattle.ndef_format.specs.declared.kind.Kind.{Kind}
 use Rattle.ndef_format.specs.declared.kind.Kind.TheVariants as kinds
 use Rattle.ndef_format.specs.Nested.{IsNest, Nested}
@@ -18,23 +14,11 @@ use Rattle.ndef_format.specs.declared.table.Table.TheVariants as tables
 use Rattle.ndef_format.specs.Accepted.{IsMember}
 use Rattle.ndef_message.specs.declared.message_reading.Read.{Read}
 use Rattle.ndef_format.specs.Reasons.{Conditions}
-use Rattle.ndef_types.specs.Decoding.{RefusesPayload}
 use Rattle.ndef_tool.specs.Rules.{rules_of}
 use Rattle.ndef_tool.specs.Sessions.{IsNext}
 use Rattle.ndef_tool.specs.Showing.{IsTyped}
 
--- ---- a member is not refused
-
-ends : (set : List ℕ → Type 0) (s : List ℕ) (n : ℕ) → n ≤ length s → set s → CanEnd set s n
-ends set s n h m = (drop n s, (subst set (sym (take-append-drop n s)) m, omega (arith, length-drop n s)))
-
-pub never_refused : (set : List ℕ → Type 0) (holds : List ℕ → ℕ → Reason → Type 0) (s : List ℕ) (refusal : Refusal) → length s < 2 ^ 32 → set s
-    → RefusesPayload set holds s refusal → ⊥
-never_refused set holds s refusal short m (inl h) = omega (arith, h.0)
-never_refused set holds s refusal short m (inr (_, inl h)) = h.0 (ends set s 0 (omega arith) m)
-never_refused set holds s refusal short m (inr (_, inr h)) = h.2 (ends set s (refusal.at + 1) (omega (arith, h.0)) m)
-
--- ---- nor where more records are let in
+-- ---- where more records are let in
 
 nested_on : (table : Table) (n : ℕ) (profile : Profile) (s : List ℕ) → n ≤ 65535 → Nested table n profile s → Nested table 65535 profile s
 nested_on table n profile s h d = (

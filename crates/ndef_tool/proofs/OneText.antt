@@ -27,7 +27,7 @@ use Rattle.ndef_types.specs.declared.power.Power.{Power}
 use Rattle.ndef_types.specs.declared.power.Power.TheVariants.{Inactive, Active, Activating, Unknown}
 use Rattle.ndef_tool.specs.Output.{AreBlocks, IsBlock, IsBlockBy, OneOutput, total_bytes, outcome_line}
 use Rattle.ndef_cli.specs.Quoting.{Text}
-use Rattle.ndef_tool.specs.Showing.{AreRecordLines, IsRecordLine, IsTyped, PrintsValue, TellsPoster, record_front, reported_carrier, reported_request, reported_select, reported_text, reported_uri}
+use Rattle.ndef_tool.specs.Showing.{AreRecordLines, IsRecordLine, IsTyped, PrintsValue, TellsPoster, record_front, reported_carrier, reported_handover, reported_text, reported_uri}
 use Rattle.ndef_tool.specs.declared.choice.Action.{Action}
 use Rattle.ndef_tool.specs.declared.choice.Action.TheVariants.{Show, Check, Encode}
 use Rattle.ndef_tool.specs.declared.choice.Choice.{Choice}
@@ -94,8 +94,8 @@ one_reported one kinds.Text profile s a b h (v, p, e) (w, q, d) = e ∙ ap repor
 one_reported one kinds.Uri profile s a b h (v, p, e) (w, q, d) = e ∙ ap reported_uri (uri_of_payload s v w p q) ∙ sym d
 one_reported one kinds.SmartPoster profile s a b h (v, p, e) (w, q, d) =
     one_poster w a b (subst (λ items. TellsPoster items a) (one.posters profile s v w h p q) e) d
-one_reported one kinds.Request profile s a b h (v, p, e) (w, q, d) = e ∙ ap reported_request (one.requests profile s v w h p q) ∙ sym d
-one_reported one kinds.Select profile s a b h (v, p, e) (w, q, d) = e ∙ ap reported_select (one.selects profile s v w h p q) ∙ sym d
+one_reported one kinds.Request profile s a b h (v, p, e) (w, q, d) = e ∙ ap (λ x. reported_handover kinds.Request x.minor x.items) (one.requests profile s v w h p q) ∙ sym d
+one_reported one kinds.Select profile s a b h (v, p, e) (w, q, d) = e ∙ ap (λ x. reported_handover kinds.Select x.minor (records_of x.message)) (one.selects profile s v w h p q) ∙ sym d
 one_reported one kinds.Carrier profile s a b h (v, p, e) (w, q, d) = e ∙ ap reported_carrier (one.carriers s v w h p q) ∙ sym d
 one_reported one kinds.Other profile s a b h e d = e ∙ sym d
 one_reported one _ profile s a b h e d = e ∙ sym d

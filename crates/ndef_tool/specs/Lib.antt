@@ -1,5 +1,6 @@
 pub mod Showing
 pub mod Linking
+pub mod Members
 pub mod CommandLine
 pub mod Chosen
 pub mod Output

@@ -1,5 +1,5 @@
 -- The output of `show` for the records of a message: the values of their payloads.
-use Rattle.std.specs.Prelude.{◌≡◌, ◌+◌, ℕ, List, [], ◌∷◌, ◌++◌, length, codes, decimal, Option, None, Some, unwrap_or, encode_utf8_all}
+use Rattle.std.specs.Prelude.{◌≡◌, ◌+◌, ℕ, List, [], ◌∷◌, ◌++◌, length, codes, decimal, Option, None, Some, encode_utf8_all}
 use Rattle.ndef_format.specs.Messages.{Item}
 use Rattle.ndef_format.specs.Records.{code}
 use Rattle.ndef_format.specs.declared.profile.Profile.{Profile}
@@ -9,7 +9,7 @@ use Rattle.ndef_format.specs.declared.kind.Kind.{Kind}
 use Rattle.ndef_format.specs.declared.kind.Kind.TheVariants as kinds
 use Rattle.ndef_format.specs.Payloads.{IsKindPayload}
 use Rattle.ndef_types.specs.Handovers.{RequestValue, SelectValue, StandsForRequest, StandsForSelect}
-use Rattle.ndef_types.specs.Links.{alternatives}
+use Rattle.ndef_types.specs.Links.{alternatives, records_of}
 use Rattle.ndef_types.specs.Posters.{IsUriOf, Says, StandsForPoster, action_in, size_in, titles}
 use Rattle.ndef_types.specs.Values.{CarrierValue, TextValue, StandsForCarrier, StandsForText, StandsForUri}
 use Rattle.ndef_types.specs.declared.action.Action.{Action}
@@ -84,15 +84,15 @@ TellsPoster items text =
 
 -- ---- handovers
 
--- Connection Handover 1.2, Handover Request record: the minor version, and the number of carriers
-abbrev pub reported_request : RequestValue → Text
-reported_request v = codes " request version 1." ++ decimal v.minor ++ codes " carriers "
-    ++ decimal (length (alternatives v.items))
+-- the text before the minor version of a handover
+abbrev pub handover_word : Kind → Text
+handover_word kinds.Request = codes " request version 1."
+handover_word _ = codes " select version 1."
 
--- Connection Handover 1.2, Handover Select record: the same
-abbrev pub reported_select : SelectValue → Text
-reported_select v = codes " select version 1." ++ decimal v.minor ++ codes " carriers "
-    ++ decimal (length (alternatives (unwrap_or v.message [])))
+-- Connection Handover 1.2, Handover Request and Select records: the minor version, and the number of carriers
+abbrev pub reported_handover : Kind → (minor : ℕ) → List Item → Text
+reported_handover kind minor items =
+    handover_word kind ++ decimal minor ++ codes " carriers " ++ decimal (length (alternatives items))
 
 -- Connection Handover 1.2, Handover Carrier record: the format and the type, and the number of
 -- octets of data
@@ -114,10 +114,10 @@ PrintsValue kinds.SmartPoster profile payload text =
     (items : List Item) × StandsForPoster profile payload items × TellsPoster items text
 PrintsValue kinds.Request profile payload text =
     (v : RequestValue) × StandsForRequest profile payload v
-    × (text ≡ reported_request v)
+    × (text ≡ reported_handover kinds.Request v.minor v.items)
 PrintsValue kinds.Select profile payload text =
     (v : SelectValue) × StandsForSelect profile payload v
-    × (text ≡ reported_select v)
+    × (text ≡ reported_handover kinds.Select v.minor (records_of v.message))
 PrintsValue kinds.Carrier profile payload text = (v : CarrierValue) × StandsForCarrier payload v
     × (text ≡ reported_carrier v)
 PrintsValue kinds.Other profile payload text = text ≡ codes " other"

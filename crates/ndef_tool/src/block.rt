@@ -69,7 +69,7 @@ pub fn check_block(number: u64, at: u64, checked: Checked) -> Block
 }
 
 /// The bytes for which memory is taken at once for the output of `show` for a message; more where it is longer.
-const USUAL: usize = 256;
+const USUAL: usize = 512;
 
 /// Returns the output of `show` for it: its line, the lines of the records and those of the links.
 pub fn show_block(
@@ -85,8 +85,8 @@ pub fn show_block(
     let records = read.message.len() as u64;
     let mut lines = Bytes::from(Vec::with_capacity(alloc, USUAL)?);
     lines.extend(message_line(number, at, records, read.taken).as_slice())?;
-    push_records(alloc, &mut lines, profile, &read.message)?;
-    push_link_lines(alloc, &mut lines, profile, &read.message)?;
+    let first = push_records(alloc, &mut lines, profile, &read.message)?;
+    push_link_lines(alloc, &mut lines, profile, &read.message, first)?;
     Ok(Block::Bytes(lines))
 }
 

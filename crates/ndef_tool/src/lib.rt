@@ -9,6 +9,7 @@
 //! - `block.rt`, `printing.rt`, `specs/Output.antt`: the output.
 //! - `showing.rt`: the lines of records. `value_lines.rt`, `poster_lines.rt`, `handover_lines.rt`: of
 //!   their payloads.
+//! - `nested.rt`: the records of the messages in payloads.
 //! - `linking.rt`: the lines of links. `quoting.rt`: parts of lines.
 //! - `kinds.rt`: the kind of a record. `laws.rt`: that the output is one text.
 //! - `system.rt`: a run over the files and the standard streams of the system. `operands.rt`: the files that the words
@@ -23,6 +24,7 @@ mod hexadecimal;
 mod kinds;
 mod laws;
 mod linking;
+mod nested;
 mod operands;
 mod pages;
 mod poster_lines;

@@ -1,11 +1,15 @@
 //! The lines of records.
-ghost use Rattle.std.specs.Prelude.{◌≡◌, ◌+◌, ◌<◌, ◌^◌, ◌++◌, length, OnOk};
+ghost use Rattle.std.specs.Prelude.{◌≡◌, ◌+◌, ◌<◌, ◌^◌, ◌++◌, true, length, option_map, IfOk, OnOk};
 ghost use Rattle.std.specs.List.{AllByRecursion};
 ghost use Rattle.ndef_format.specs.Kinds.{kind_of};
+ghost use Rattle.ndef_format.specs.Nested.{table_of};
+ghost use Rattle.ndef_types.specs.Links.{is_handover};
+ghost use Rattle.ndef_tool.specs.Members.{FindsFirst, HasMembers};
 ghost use Rattle.ndef_tool.specs.Showing.{Adds, AreRecordLines, IsRecordLine, IsTyped, PrintsValue, record_front};
 
-use crate::handover_lines::{push_request, push_select};
-use crate::kinds::kind_of;
+use crate::handover_lines::push_handover;
+use crate::kinds::{is_handover, kind_of};
+use crate::nested::Member;
 use crate::poster_lines::push_poster;
 use crate::quoting::push_named;
 use crate::value_lines::{push_carrier, push_text, push_uri};
@@ -26,12 +30,15 @@ fn push_reported(
         (PrintsValue (kind_of item.now.tnf item.now.kind) profile item.now.payload)) }
 {
     let payload = item.payload();
-    match kind_of(item) {
+    let kind = kind_of(item);
+    match kind {
         Kind::Text => push_text(alloc, line, profile, payload),
         Kind::Uri => push_uri(alloc, line, profile, payload),
         Kind::SmartPoster => push_poster(alloc, line, profile, payload),
-        Kind::Request => push_request(alloc, line, profile, payload),
-        Kind::Select => push_select(alloc, line, profile, payload),
+        Kind::Request | Kind::Select => {
+            push_handover(alloc, line, profile, kind, payload)?;
+            Ok(())
+        }
         Kind::Carrier => push_carrier(alloc, line, profile, payload),
         Kind::Other
         | Kind::Action
@@ -71,21 +78,48 @@ fn push_record(
     lines.extend(b"\n")
 }
 
-/// Appends the lines of the records of a message.
-pub fn push_records(
+/// Appends the line of a handover. Returns its records.
+fn push_first<'a>(
     alloc: Global,
     lines: &mut Bytes,
     profile: Profile,
-    message: &Message,
-) -> Result<(), NoMemory>
-    requires { AllByRecursion (IsTyped profile) message.now }
-    ensures { OnOk result (Adds lines.old lines.new (AreRecordLines profile 1 message.now)) }
+    number: u64,
+    item: &'a Record,
+) -> Result<Vec<Member<'a>>, NoMemory>
+    requires kind { is_handover (kind_of item.now.tnf item.now.kind) ≡ true }
+    requires typed { IsTyped profile item.now }
+    ensures members { IfOk result (λ members.
+        HasMembers (table_of (kind_of item.now.tnf item.now.kind)) profile item.now.payload members.items) }
+    ensures line { IfOk result (λ members. Adds lines.old lines.new (IsRecordLine profile number item.now)) }
 {
+    push_record_front(lines, number, item)?;
+    let members = push_handover(alloc, lines, profile, kind_of(item), item.payload())?;
+    lines.extend(b"\n")?;
+    Ok(members)
+}
+
+/// Appends the lines of the records of a message. Returns the records in its first handover.
+pub(crate) fn push_records<'a>(
+    alloc: Global,
+    lines: &mut Bytes,
+    profile: Profile,
+    message: &'a Message,
+) -> Result<Option<Vec<Member<'a>>>, NoMemory>
+    requires { AllByRecursion (IsTyped profile) message.now }
+    ensures first { IfOk result (λ first. FindsFirst profile message.now (option_map (λ m. m.items) first)) }
+    ensures lines { IfOk result (λ first. Adds lines.old lines.new (AreRecordLines profile 1 message.now)) }
+{
+    let mut first = None;
     for index in 0..message.len() {
         let Some(item) = message.get(index) else {
             unreachable!()
         };
-        push_record(alloc, lines, profile, index as u64 + 1, item)?;
+        let number = index as u64 + 1;
+        if first.is_none() && is_handover(kind_of(item)) {
+            first = Some(push_first(alloc, lines, profile, number, item)?);
+        } else {
+            push_record(alloc, lines, profile, number, item)?;
+        }
     }
-    Ok(())
+    Ok(first)
 }
