@@ -1,42 +1,50 @@
--- Lines of dumps.
-use Rattle.std.proofs.Common.{◌≡◌, ◌∙◌, ◌+◌, ◌<◌, ◌≤◌, ℕ, suc, true, false, List, [], ◌∷◌, ◌++◌, Some, length, take, drop, drop-cons, get_or, append-nil, append_assoc, refl, sym, ap, arith, cond}
-use Rattle.std.specs.Prelude.{codes, nat_eq}
-use Rattle.std.specs.List.{starts_with}
-use Rattle.std.proofs.lemmas.List.{drop_all, take_more}
-use Rattle.ndef_cli.specs.Quoting.{Text}
-use Rattle.ndef_cli_explain.specs.Hexadecimal.{before_gap, is_placed, unplaced}
+-- The bytes that a text spells, read into as many.
+use Rattle.std.proofs.Common.{◌≡◌, ◌∙◌, ◌∷◌, ℕ, List, [], Result, Ok, Err, length, refl, sym, ap, arith}
+use Rattle.ndef_diagnostics.specs.Dumps.{counted, dump_of, written}
+use Rattle.ndef_diagnostics.specs.declared.dump.DumpFault.{DumpFault}
+use Rattle.ndef_diagnostics.specs.declared.dump.DumpFault.TheVariants as faults
+use Rattle.ndef_cli_explain.specs.Inputs.{StandsFor, unread_of}
 
--- ---- what stands before two spaces
+all_written : (octets out : List ℕ) → length octets ≡ length out → written octets out ≡ octets
+all_written [] [] same = refl
+all_written [] (x ∷ out) same = absurd (omega arith)
+all_written (octet ∷ octets) [] same = absurd (omega arith)
+all_written (octet ∷ octets) (x ∷ out) same = ap (λ t. octet ∷ t) (all_written octets out (omega arith))
 
-gap_at : (text : Text) → starts_with nat_eq text (codes "  ") ≡ true → before_gap text ≡ []
-gap_at [] is = refl
-gap_at (byte ∷ text) is = ap (λ b. cond b [] (byte ∷ before_gap text)) is
+-- a count is that of some bytes
+some_counted : (r : Result (List ℕ) DumpFault) (count : ℕ) → counted r ≡ Ok count
+    → (octets : List ℕ) × (r ≡ Ok octets) × (length octets ≡ count)
+some_counted (Ok octets) count e = (octets, refl, cc)
+some_counted (Err fault) count e = absurd (cc)
 
-no_gap_at : (byte : ℕ) (text : Text) → starts_with nat_eq (byte ∷ text) (codes "  ") ≡ false → before_gap (byte ∷ text) ≡ byte ∷ before_gap text
-no_gap_at byte text is = ap (λ b. cond b [] (byte ∷ before_gap text)) is
+pub dump_counted : (text : List ℕ) (count : ℕ) → counted (dump_of text) ≡ Ok count
+    → (octets : List ℕ) × (dump_of text ≡ Ok octets) × (length octets ≡ count)
+dump_counted text count e = some_counted (dump_of text) count e
 
--- one byte more
-pub gap_more : (text : Text) (n : ℕ) → n < length text → starts_with nat_eq (drop n text) (codes "  ") ≡ false → take n text ++ before_gap (drop n text) ≡ before_gap text
-    → take (n + 1) text ++ before_gap (drop (n + 1) text) ≡ before_gap text
-gap_more text n l none before =
-    let x = get_or text n 0 in
-    let e : drop n text ≡ x ∷ drop (suc n) text = drop-cons text n 0 l in
-    let s : suc n ≡ n + 1 = omega arith in
-    let rest : before_gap (drop n text) ≡ x ∷ before_gap (drop (suc n) text) =
-    ap before_gap e ∙ no_gap_at x (drop (suc n) text) (ap (λ (t : Text). starts_with nat_eq t (codes "  ")) (sym e) ∙ none) in
-    ap (λ t. t ++ before_gap (drop (n + 1) text)) (take_more text n 0 l) ∙ append_assoc (take n text) (x ∷ []) (before_gap (drop (n + 1) text))
-    ∙ ap (λ k. take n text ++ x ∷ before_gap (drop k text)) (sym s) ∙ ap (λ t. take n text ++ t) (sym rest) ∙ before
+fault_of : (r : Result (List ℕ) DumpFault) (fault : DumpFault) → counted r ≡ Err fault → r ≡ Err fault
+fault_of (Ok octets) fault e = absurd (cc)
+fault_of (Err other) fault e = cc
 
--- two spaces
-pub gap_found : (text : Text) (n : ℕ) → starts_with nat_eq (drop n text) (codes "  ") ≡ true → take n text ++ before_gap (drop n text) ≡ before_gap text → take n text ≡ before_gap text
-gap_found text n is before = sym (append-nil (take n text)) ∙ ap (λ t. take n text ++ t) (sym (gap_at (drop n text) is)) ∙ before
+pub dump_fault : (text : List ℕ) (fault : DumpFault) → counted (dump_of text) ≡ Err fault → dump_of text ≡ Err fault
+dump_fault text fault e = fault_of (dump_of text) fault e
 
--- ---- lines with a place
+none_counted : (octets : List ℕ) → length octets ≡ 0 → octets ≡ []
+none_counted [] e = refl
+none_counted (x ∷ octets) e = absurd (omega arith)
 
--- a line with a place
-pub placed_more : (number : ℕ) (line : Text) (rest : List Text) → is_placed line ≡ true → unplaced number (line ∷ rest) ≡ unplaced (number + 1) rest
-placed_more number line rest is = ap (λ b. cond b (unplaced (number + 1) rest) (Some number)) is
+pub dump_empty : (text : List ℕ) → counted (dump_of text) ≡ Ok 0 → dump_of text ≡ Ok []
+dump_empty text e = let d = dump_counted text 0 e in d.1 ∙ ap Ok (none_counted d.0 d.2)
 
--- a line without one
-pub unplaced_here : (number : ℕ) (line : Text) (rest : List Text) → is_placed line ≡ false → unplaced number (line ∷ rest) ≡ Some number
-unplaced_here number line rest is = ap (λ b. cond b (unplaced (number + 1) rest) (Some number)) is
+-- as many bytes as a text spells are these
+pub filled : (text octets old new : List ℕ) → dump_of text ≡ Ok octets → length octets ≡ length old
+    → ((o : List ℕ) → dump_of text ≡ Ok o → new ≡ written o old) → dump_of text ≡ Ok new
+filled text octets old new e same fills = e ∙ ap Ok (sym (fills octets e ∙ all_written octets old same))
+
+-- a fault of a text is why there are no bytes
+pub stands_for_fault : (text : List ℕ) (fault : DumpFault) → dump_of text ≡ Err fault → StandsFor text (Err (unread_of fault))
+stands_for_fault text faults.Odd e = (faults.Odd, e, refl)
+stands_for_fault text (faults.BadDigit place) e = (faults.BadDigit place, e, refl)
+stands_for_fault text (faults.NoPlace line) e = (faults.NoPlace line, e, refl)
+stands_for_fault text (faults.Repeated line) e = (faults.Repeated line, e, refl)
+stands_for_fault text faults.TooLong e = (faults.TooLong, e, refl)
+stands_for_fault text faults.Words e = (faults.Words, e, refl)

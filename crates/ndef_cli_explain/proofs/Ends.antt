@@ -1,61 +1,64 @@
 -- All that is printed of an input.
-use Rattle.std.proofs.Common.{◌≡◌, ℕ, ◌+◌, ◌≤◌, ap, arith, length, length-drop, refl, sym, ◌∙◌, subst, List, [], ◌∷◌, ◌++◌, append_assoc, drop}
+use Rattle.std.proofs.Common.{ℕ, ◌≤◌, refl, ap, arith, length, length-drop, sym, ◌∙◌, subst, List, [], ◌∷◌, ◌++◌, drop}
+use Rattle.std.proofs.lemmas.List.{drop-drop}
 use Rattle.ndef_format.specs.Limits.{LimitValues}
-use Rattle.ndef_format.specs.declared.refusal.Refusal.{Refusal}
 use Rattle.ndef_fields.specs.declared.report.FieldReport.{FieldReport}
 use Rattle.ndef_cli.specs.Quoting.{Text}
-use Rattle.ndef_cli_explain.specs.Explained.{IsExplained, IsPastStop, IsStopWithin}
-use Rattle.ndef_cli_explain.specs.Explaining.{Appends, AreReported, Explains, IsStopText, bytes_reported}
-use Rattle.ndef_cli_explain.specs.Forms.{Form}
+use Rattle.ndef_cli_explain.specs.Coloring.{shown_in}
+use Rattle.ndef_cli_explain.specs.Explained.{IsEnd, IsEndAt, IsExplained, IsStopWithin}
+use Rattle.ndef_cli_explain.specs.Explaining.{AreReported, BeginsWith, Explains, StopsAt, bytes_reported}
+use Rattle.ndef_cli_explain.specs.Forms.{LookValues}
 use Rattle.ndef_cli_explain.specs.declared.explaining.ExplainedMessages.{ExplainedMessages}
 use Rattle.ndef_cli_explain.specs.declared.explaining.Stop.{Stop}
 use Rattle.ndef_cli_explain.specs.declared.explaining.Stop.TheVariants.{End, Refused}
 
-pub explained : (form : Form) (limits : LimitValues) (input : List ℕ) (old new newer last : Text) (progress : ExplainedMessages) → old ≡ []
-    → Explains form limits input old new progress → Appends (IsStopText form limits progress.number progress.at progress.rest.now progress.stop) new newer
-    → Appends (IsPastStop form limits input progress.number progress.at progress.stop) newer last → IsExplained form limits input progress.stop last
-explained form limits input old new newer last progress none e s l = record {
-  reported = e.reported;
-  are_reported = e.are_reported;
-  messages = e.messages;
-  are_messages = e.are_messages;
-  last = s.0;
-  ends =
-      subst (λ k. IsStopText form limits k (bytes_reported e.reported) (drop (bytes_reported e.reported) input) progress.stop s.0) e.number_is
-      (subst (λ n. IsStopText form limits progress.number n (drop n input) progress.stop s.0) e.at_is
-      (subst (λ x. IsStopText form limits progress.number progress.at x progress.stop s.0) e.rest_is s.1));
-  later = l.0;
-  goes_on =
-      subst (λ k. IsPastStop form limits input k (bytes_reported e.reported) progress.stop l.0) e.number_is
-      (subst (λ n. IsPastStop form limits input progress.number n progress.stop l.0) e.at_is l.1);
-  text_is =
-      l.2 ∙ ap (λ x. x ++ l.0) (s.2 ∙ ap (λ x. x ++ s.0) (e.text_is ∙ ap (λ x. x ++ e.messages) none))
-      ∙ append_assoc e.messages s.0 l.0;
-}
+-- messages, and where they stop
+reported_by : (limits : LimitValues) (reported : List FieldReport) (input : List ℕ) (stop : Stop) → BeginsWith limits reported input
+    → StopsAt limits (drop (bytes_reported reported) input) stop → AreReported limits reported input stop
+reported_by limits [] input stop begins stops = stops
+reported_by limits (r ∷ more) input stop (tells, begins) stops =
+    let e = drop-drop (bytes_reported more) r.taken input ∙ ap (λ n. drop n input) (omega arith) in
+    (tells, reported_by limits more (drop r.taken input) stop begins (subst (λ x. StopsAt limits x stop) (sym e) stops))
+
+pub explained : (look : LookValues) (input : List ℕ) (text end : Text) (progress : ExplainedMessages) → Explains look input text progress
+    → IsEnd look input progress end → IsExplained look input progress.stop (text ++ shown_in look.in_color end)
+explained look input text end progress e is =
+    let f = e.first in
+    let stops = subst (λ x. StopsAt look.origin.limits x progress.stop) (e.rest_is ∙ ap (λ n. drop n input) f.at_is) e.stops in
+    record {
+      reported = f.reported;
+      are_reported = reported_by look.origin.limits f.reported input progress.stop f.begins stops;
+      messages = text;
+      are_messages = f.are_texts;
+      end = end;
+      is_end =
+          subst (λ n. IsEndAt look input n (bytes_reported f.reported) progress.stop end) f.number_is
+          (subst (λ n. IsEndAt look input progress.number n progress.stop end) f.at_is is);
+      text_is = refl;
+    }
 
 -- ---- where the messages stop
 
--- a refused byte lies in the input, or past its last byte
-stop_within : (limits : LimitValues) (reported : List FieldReport) (input : List ℕ) (refusal : Refusal) → AreReported limits reported input (Refused refusal)
-    → bytes_reported reported + refusal.at ≤ length input
-stop_within limits [] input refusal (some, refuses) =
-    let none : bytes_reported [] ≡ 0 = refl in
-    let within = refuses.place.within in
-    omega (arith, none, within)
-stop_within limits (reported ∷ more) input refusal (tells, are) =
-    let n = length-drop reported.taken input in
-    let w = stop_within limits more (drop reported.taken input) refusal are in
+-- the first messages are no longer than the input
+first_within : (limits : LimitValues) (reported : List FieldReport) (input : List ℕ) → BeginsWith limits reported input → bytes_reported reported ≤ length input
+first_within limits [] input first = omega arith
+first_within limits (r ∷ more) input (tells, first) =
+    let n = length-drop r.taken input in
+    let w = first_within limits more (drop r.taken input) first in
     let count = tells.1 in
     let within = tells.0.within in
-    let sum : bytes_reported (reported ∷ more) ≡ reported.taken + bytes_reported more = refl in
-    omega (arith, n, w, count, within, sum)
+    omega (arith, n, w, count, within)
 
-stop_by : (limits : LimitValues) (reported : List FieldReport) (input : List ℕ) (stop : Stop) → AreReported limits reported input stop
-    → IsStopWithin (bytes_reported reported) (length input) stop
-stop_by limits reported input End are = tt
-stop_by limits reported input (Refused refusal) are = stop_within limits reported input refusal are
+-- a refused byte lies in the input, or past its last byte
+stop_within : (limits : LimitValues) (at : ℕ) (input : List ℕ) (stop : Stop) → at ≤ length input → StopsAt limits (drop at input) stop → IsStopWithin at (length input) stop
+stop_within limits at input End l stops = tt
+stop_within limits at input (Refused refusal) l (some, refuses) =
+    let within = refuses.place.within in
+    let n = length-drop at input in
+    omega (arith, within, n, l)
 
-pub stop_fits : (form : Form) (limits : LimitValues) (input : List ℕ) (old new : Text) (progress : ExplainedMessages) → Explains form limits input old new progress
-    → IsStopWithin progress.at (length input) progress.stop
-stop_fits form limits input old new progress e =
-    subst (λ n. IsStopWithin n (length input) progress.stop) (sym e.at_is) (stop_by limits e.reported input progress.stop e.are_reported)
+pub stop_fits : (look : LookValues) (input : List ℕ) (text : Text) (progress : ExplainedMessages) → Explains look input text progress → IsStopWithin progress.at (length input) progress.stop
+stop_fits look input text progress e =
+    let a = e.first.at_is in
+    let w = first_within look.origin.limits e.first.reported input e.first.begins in
+    stop_within look.origin.limits progress.at input progress.stop (omega (arith, a, w)) (subst (λ x. StopsAt look.origin.limits x progress.stop) e.rest_is e.stops)

@@ -6,7 +6,7 @@ use Rattle.std.proofs.lemmas.List.{map-append}
 use Rattle.ndef_format.specs.Messages.{Item}
 use Rattle.ndef_format.specs.Records.{Piece}
 use Rattle.ndef_message.specs.Views.{only_payload}
-use Rattle.ndef_cli_explain.specs.Forms.{Form, in_utf8}
+use Rattle.ndef_cli_explain.specs.Forms.{Form, shown_by}
 use Rattle.ndef_cli_explain.specs.OfEach.{Puts}
 use Rattle.ndef_cli_explain.specs.Outputs.{with_either}
 use Rattle.ndef_cli_explain.specs.Payloads.{AddsJoined, AreJoinedBy, Joined, payload_object, payload_objects, payload_text, payload_texts, with_payloads}
@@ -16,9 +16,9 @@ use Rattle.ndef_cli_explain.proofs.OutputParts.{either_more, either_none}
 -- payloads, and then others
 pub payloads_more : (form : Form) (out : Output) (one more : List Joined) → with_payloads form out (one ++ more) ≡ with_payloads form (with_payloads form out one) more
 payloads_more form out one more =
-    let utf8 = in_utf8 form in
-    ap₂ (with_either form out) (flat_map-append (payload_text utf8) one more) (map-append payload_object one more)
-    ∙ either_more form out (payload_texts utf8 one) (payload_texts utf8 more) (payload_objects one) (payload_objects more)
+    let shown = shown_by form in
+    ap₂ (with_either form out) (flat_map-append (payload_text shown) one more) (map-append payload_object one more)
+    ∙ either_more form out (payload_texts shown one) (payload_texts shown more) (payload_objects one) (payload_objects more)
 
 pub map_some : (o : Option (Bor (List ℕ))) → is_some (option_map (λ s. s.now) o) ≡ is_some o
 map_some None = refl

@@ -1,5 +1,4 @@
 pub mod Asking
-pub mod Digits
 pub mod Dumps
 pub mod EachRun
 pub mod Ends
@@ -9,7 +8,10 @@ pub mod MessageTexts
 pub mod RecoverySteps
 pub mod OutputParts
 pub mod Colored
+pub mod Numbering
 pub mod Places
 pub mod Referring
 pub mod Reports
+pub mod Sent
 pub mod Worded
+pub mod InputTexts

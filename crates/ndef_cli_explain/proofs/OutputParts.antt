@@ -70,14 +70,14 @@ line_parts out pairs =
 -- nothing
 pub either_none : (form : Form) (out : Output) → with_either form out [] [] ≡ out
 unfolding with_text
-either_none (lines utf8) out = ap (λ t. output t out.later) (append-nil out.text)
+either_none (lines shown) out = ap (λ t. output t out.later) (append-nil out.text)
 either_none (objects file) out = refl
 
 -- lines or values, and then others
 pub either_more : (form : Form) (out : Output) (one other : Text) (values more : List Data)
     → with_either form out (one ++ other) (values ++ more) ≡ with_either form (with_either form out one values) other more
 unfolding with_text
-either_more (lines utf8) out one other values more = ap (λ t. output t out.later) (sym (append_assoc out.text one other))
+either_more (lines shown) out one other values more = ap (λ t. output t out.later) (sym (append_assoc out.text one other))
 either_more (objects file) out one other values more = fold-append with_value out values more
 
 -- ---- lines and objects of messages

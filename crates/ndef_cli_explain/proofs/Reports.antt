@@ -9,7 +9,8 @@ use Rattle.ndef_cli.specs.Quoting.{Text}
 use Rattle.ndef_cli.specs.declared.status.Status.{Status}
 use Rattle.ndef_cli.specs.declared.status.Status.TheVariants as status
 use Rattle.ndef_cli.specs.Inputs.{GivesInput}
-use Rattle.ndef_cli_explain.specs.Running.{TellsAll, TellsAsked, TellsNext, World, course, report_options_of}
+use Rattle.ndef_cli_explain.specs.Reporting.{TellsNext}
+use Rattle.ndef_cli_explain.specs.Running.{TellsAll, TellsAsked, World, course, report_options_of}
 use Rattle.ndef_cli.specs.Statuses.{worse}
 use Rattle.ndef_cli_explain.specs.declared.choice.ExplainChoice.{ExplainChoice}
 use Rattle.ndef_cli_explain.specs.declared.reporting.ReportOptions.{ReportOptions}

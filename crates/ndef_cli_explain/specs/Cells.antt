@@ -1,5 +1,5 @@
--- Octets in hexadecimal digits.
-use Rattle.std.specs.Prelude.{ℕ, ◌+◌, ◌*◌, ◌-◌, ◌^◌, ◌%◌, ◌==◌, List, [], ◌∷◌, ◌++◌, codes, length, take, if◌then◌else◌}
+-- Octets in hexadecimal digits, and as characters.
+use Rattle.std.specs.Prelude.{ℕ, ◌+◌, ◌*◌, ◌-◌, ◌^◌, ◌%◌, ◌==◌, ◌&&◌, nat_le, Bool, true, false, List, [], ◌∷◌, ◌++◌, codes, length, take, if◌then◌else◌}
 use Rattle.std.specs.Int.{w32, to_be_bytes}
 use Rattle.std.specs.List.{flat_map}
 use Rattle.hex.specs.Hex.{encode_lower}
@@ -29,8 +29,27 @@ cells octets = flat_map cell octets ++ take (24 - 3 * length octets) (codes "   
 abbrev pub later_start : (depth : ℕ) → Text
 later_start depth = codes "\n        " ++ indentation depth
 
+-- an octet of printable ASCII, and a dot for any other
+abbrev pub character : ℕ → Text
+character octet = if nat_le 0x20 octet && nat_le octet 0x7e then octet ∷ [] else codes "."
+
+-- the characters of octets between bars
+abbrev pub barred : List ℕ → Text
+barred octets = codes "|" ++ flat_map character octets ++ codes "|"
+
+-- the column of characters, if it is requested, and blanks up to the next column
+abbrev pub column_of : (characters : Bool) → List ℕ → Text
+column_of false octets = []
+column_of true octets = barred octets ++ take (10 - length octets) (codes "          ")
+
+-- the octets of a further line, and their characters if that is requested
+abbrev pub later_row : (characters : Bool) → List ℕ → Text
+later_row false octets = flat_map cell octets
+later_row true octets = cells octets ++ codes "  " ++ barred octets
+
 -- the octets after the first line, eight in a line, from this column on
-abbrev pub later_cells : (depth column : ℕ) → List ℕ → Text
-later_cells depth column [] = []
-later_cells depth column (octet ∷ octets) =
-    (if column == 0 then later_start depth else []) ++ cell octet ++ later_cells depth ((column + 1) % 8) octets
+abbrev pub later_rows : (characters : Bool) → (depth column : ℕ) → List ℕ → Text
+later_rows characters depth column [] = []
+later_rows characters depth column (octet ∷ octets) =
+    (if column == 0 then later_start depth ++ later_row characters (take 8 (octet ∷ octets)) else [])
+    ++ later_rows characters depth ((column + 1) % 8) octets

@@ -1,10 +1,10 @@
 -- The request that the words make.
-use Rattle.std.specs.Prelude.{◌≡◌, List, [], Option, Some, None, Result, Ok, Err, ⊤, map, codes, if◌then◌else◌, option_and_then, option_map, unwrap_or}
+use Rattle.std.specs.Prelude.{◌≡◌, Bool, true, false, List, [], Option, Some, None, Result, Ok, Err, ⊤, map, codes, if◌then◌else◌, option_and_then, option_map, unwrap_or}
 use Rattle.std.specs.Option.{option_map_or}
 use Rattle.std.specs.Str.{bytes_eq}
 use Rattle.clap.specs.Words.{App, Row, Text, all_of, fault_of, first_of, matches_of}
 use Rattle.ndef_cli.specs.Options.{flag_of, hex_of, unless_fault}
-use Rattle.ndef_cli.specs.LimitOptions.{chosen_limits}
+use Rattle.ndef_cli.specs.LimitOptions.{chosen_limits, given_number}
 use Rattle.ndef_cli.specs.declared.args_error.ArgsError.{ArgsError}
 use Rattle.ndef_cli.specs.declared.args_error.ArgsError.TheVariants.{Usage, NoMemory}
 use Rattle.ndef_cli_explain.specs.CommandLine.{explain_app}
@@ -12,6 +12,8 @@ use Rattle.ndef_cli_explain.specs.declared.choice.Asked.{Asked}
 use Rattle.ndef_cli_explain.specs.declared.choice.ExplainChoice.{ExplainChoice}
 use Rattle.ndef_cli_explain.specs.declared.choice.Color.{Color}
 use Rattle.ndef_cli_explain.specs.declared.choice.Color.TheVariants as color
+use Rattle.ndef_cli_explain.specs.declared.choice.Wanted.{Wanted}
+use Rattle.ndef_cli_explain.specs.declared.choice.Wanted.TheVariants as wanted
 
 -- when output is in colour, by this name
 abbrev pub color_named : Text → Option Color
@@ -23,17 +25,30 @@ color_named name = if bytes_eq name (codes "auto") then Some color.Auto
 abbrev pub chosen_color : List Row → Option Color
 chosen_color rows = option_map_or color_named (first_of (codes "color") rows) (Some color.Auto)
 
+-- what is written of an input, by whether it is as it is and by the number of a record: none is named but for this
+abbrev pub wanted_by : (raw : Bool) → (record_number : Option Text) → List Row → Option Wanted
+wanted_by raw None rows = Some (if raw then wanted.Octets else wanted.Explanation)
+wanted_by true (Some text) rows =
+    option_map (λ number. wanted.Payload number) (given_number (codes "record") 4294967295 rows)
+wanted_by false (Some text) rows = None
+
+-- the same of the options
+abbrev pub chosen_wanted : List Row → Option Wanted
+chosen_wanted rows = wanted_by (flag_of (codes "raw") rows) (first_of (codes "record") rows) rows
+
 -- the choice of the options
 abbrev pub choice_in : List Row → Option ExplainChoice
 choice_in rows =
     option_and_then (λ limits.
-    option_map (λ c. record {
+    option_and_then (λ c.
+    option_map (λ w. record {
       hex = hex_of rows;
       color = c;
       json = flag_of (codes "json") rows;
-      utf8 = flag_of (codes "utf8") rows;
+      shown = record { utf8 = flag_of (codes "utf8") rows; characters = flag_of (codes "characters") rows };
+      wanted = w;
       limits = limits;
-    }) (chosen_color rows)) (chosen_limits rows)
+    }) (chosen_wanted rows)) (chosen_color rows)) (chosen_limits rows)
 
 -- the names of files that are given
 abbrev pub files_in : List Row → List Text

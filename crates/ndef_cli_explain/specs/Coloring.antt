@@ -30,15 +30,15 @@ ink_of line = if is_heading line then ink.Bold
     else (if line_begins line (codes "0") then (if is_refused_byte line then ink.Red else ink.FaintPlace)
     else ink.Plain))
 
--- ECMA-48, select graphic rendition: a text in this rendition, and the usual one after it
-abbrev pub rendered : (rendition : Text) → Text → Text
-rendered rendition text = codes "\u{1b}[" ++ rendition ++ codes "m" ++ text ++ codes "\u{1b}[0m"
+-- ECMA-48, select graphic rendition: a text in the rendition that these octets select, and the usual one after it
+abbrev pub rendered : (opening : Text) → Text → Text
+rendered opening text = opening ++ text ++ codes "\u{1b}[0m"
 
 -- a line in its ink
 abbrev pub colored_in : Ink → Text → Text
-colored_in ink.Bold line = rendered (codes "1") line
-colored_in ink.Red line = rendered (codes "31") line
-colored_in ink.FaintPlace line = rendered (codes "2") (take 8 line) ++ drop 8 line
+colored_in ink.Bold line = rendered (codes "\u{1b}[1m") line
+colored_in ink.Red line = rendered (codes "\u{1b}[31m") line
+colored_in ink.FaintPlace line = rendered (codes "\u{1b}[2m") (take 8 line) ++ drop 8 line
 colored_in ink.Plain line = line
 
 -- a line in colour

@@ -9,7 +9,7 @@ use Rattle.serde_json.specs.Data.{Data, string}
 use Rattle.ndef_cli_explain.specs.Messages.{file_pairs}
 use Rattle.ndef_cli_explain.specs.Outputs.{number_value, object_of}
 use Rattle.ndef_cli_explain.specs.declared.inputs.Unread.{Unread}
-use Rattle.ndef_cli_explain.specs.declared.inputs.Unread.TheVariants.{Ends, NoPlace}
+use Rattle.ndef_cli_explain.specs.declared.inputs.Unread.TheVariants.{Ends, NoPlace, Repeated, Words}
 
 -- an input of which there are no bytes: why, and its name
 abbrev pub named_fault : Option Text → (fault : Text) → Data
@@ -25,11 +25,10 @@ abbrev pub hex_object : Option Text → HexFault → Data
 hex_object file (BadDigit digit) = digit_fault file digit
 hex_object file Odd = named_fault file (codes "odd number of digits")
 
--- the same where this line of a dump has no place and colon
-abbrev pub line_fault : Option Text → (line : ℕ) → Data
-line_fault file line =
-    object_of ((codes "fault", string (codes "no place and colon")) ∷ (file_pairs file
-    ++ (codes "line", number_value line) ∷ []))
+-- the same if this line of a dump is at fault
+abbrev pub line_fault : Option Text → (fault : Text) → (line : ℕ) → Data
+line_fault file fault line =
+    object_of ((codes "fault", string fault) ∷ (file_pairs file ++ (codes "line", number_value line) ∷ []))
 
 -- the object for an ending; reading ends neither cleanly nor by a refusal, nor with too many messages, nor by writing
 abbrev pub fault_object : Option Text → Outcome → Data
@@ -45,4 +44,6 @@ fault_object file outcomes.TooMany = named_fault file (codes "more than 10000 me
 -- the object for an input of which there are no bytes
 abbrev pub unread_object : Option Text → Unread → Data
 unread_object file (Ends outcome) = fault_object file outcome
-unread_object file (NoPlace line) = line_fault file line
+unread_object file (NoPlace line) = line_fault file (codes "no place and colon") line
+unread_object file (Repeated line) = line_fault file (codes "no line to repeat") line
+unread_object file Words = named_fault file (codes "words, not bytes")

@@ -1,5 +1,5 @@
 -- The lines and the objects of fields. The members of an object are in the order of their names.
-use Rattle.std.specs.Prelude.{ℕ, ◌+◌, ◌<◌, ◌^◌, Bool, false, ⊤, List, [], ◌∷◌, ◌++◌, Option, Some, None, codes, drop, take}
+use Rattle.std.specs.Prelude.{ℕ, ◌+◌, ◌<◌, ◌^◌, Bool, ⊤, List, [], ◌∷◌, ◌++◌, Option, Some, None, codes, drop, take}
 use Rattle.hex.specs.Hex.{encode_lower}
 use Rattle.ndef_diagnostics.specs.Remarks.{remark_text}
 use Rattle.ndef_diagnostics.specs.declared.remark.Remark.{Remark}
@@ -8,8 +8,8 @@ use Rattle.ndef_fields.specs.declared.field.Field.{Field}
 use Rattle.ndef_cli.specs.Quoting.{Text}
 use Rattle.serde_json.specs.Data.{Data, string}
 use Rattle.ndef_cli_explain.specs.Advice.{remark_line, said_remark}
-use Rattle.ndef_cli_explain.specs.Cells.{cells, later_cells, start_of}
-use Rattle.ndef_cli_explain.specs.Forms.{Form}
+use Rattle.ndef_cli_explain.specs.Cells.{cells, column_of, later_rows, start_of}
+use Rattle.ndef_cli_explain.specs.Forms.{Form, plain}
 use Rattle.ndef_cli_explain.specs.Meanings.{meaning_of, reading_of, whole_of}
 use Rattle.ndef_cli_explain.specs.Outputs.{Pair, array_of, number_value, object_of, with_either}
 use Rattle.ndef_cli_explain.specs.Wordings.{first_wording, wording_after}
@@ -27,20 +27,22 @@ PlacesFit at (field ∷ fields) = (at + field.at < 2 ^ 64) × PlacesFit at field
 
 -- ---- lines
 
--- the place of a field, its first eight octets and its name
-abbrev pub front_text : (at : ℕ) → Field → (octets : List ℕ) → Text
-front_text at field octets =
-    start_of (at + field.at) field.depth ++ cells (take 8 octets) ++ codes "  " ++ name_text field.name
+-- the place of a field, its first eight octets, their characters if that is requested, and its name
+abbrev pub front_text : (characters : Bool) → (at : ℕ) → Field → (octets : List ℕ) → Text
+front_text characters at field octets =
+    start_of (at + field.at) field.depth ++ cells (take 8 octets) ++ codes "  " ++ column_of characters (take 8 octets)
+    ++ name_text field.name
 
 -- the meaning of the octets of a field, where a number has `whole` of them, and the octets after the first eight
 abbrev pub back_text : Wording → (whole : ℕ) → Field → (octets : List ℕ) → Text
 back_text wording whole field octets =
-    meaning_of (reading_of field.name) wording whole octets ++ later_cells field.depth 0 (drop 8 octets) ++ codes "\n"
+    meaning_of (reading_of field.name) wording whole octets
+    ++ later_rows wording.shown.characters field.depth 0 (drop 8 octets) ++ codes "\n"
 
 -- the lines of a field, and of the warning about it, if warnings are printed; a number has `whole` octets
 abbrev pub field_text : Wording → (at : ℕ) → Field → (whole : ℕ) → (octets : List ℕ) → Text
 field_text wording at field whole octets =
-    front_text at field octets ++ back_text wording whole field octets
+    front_text wording.shown.characters at field octets ++ back_text wording whole field octets
     ++ remark_line (said_remark wording.remarks field.name octets)
 
 -- the lines of fields of these bytes that follow one another; each may say how the next text is encoded
@@ -85,7 +87,7 @@ field_objects wording at bytes (field ∷ fields) =
 
 -- the fields of these bytes; their meaning is in ASCII, and warnings about them are printed or not
 abbrev pub fields_array : (remarks : Bool) (at : ℕ) (bytes : List ℕ) → List Field → Data
-fields_array remarks at bytes fields = array_of (field_objects (first_wording false remarks) at bytes fields)
+fields_array remarks at bytes fields = array_of (field_objects (first_wording plain remarks) at bytes fields)
 
 -- ---- either form
 

@@ -8,11 +8,11 @@ pub mod Explaining
 pub mod Faults
 pub mod Fields
 pub mod Forms
-pub mod Hexadecimal
 pub mod Inputs
 pub mod Lines
 pub mod Meanings
 pub mod Messages
+pub mod Numbered
 pub mod OfEach
 pub mod Recovery
 pub mod Outputs
@@ -24,5 +24,7 @@ pub mod References
 pub mod Refusals
 pub mod RefusedRecords
 pub mod RemarkLists
+pub mod Reporting
 pub mod Running
+pub mod Shell
 pub mod Wordings

@@ -112,8 +112,8 @@ meaning_of readings.ErrorReason wording whole octets =
 meaning_of readings.PowerState wording whole octets = power_text (slice_index octets 0)
 meaning_of readings.Format wording whole octets = format_text (slice_index octets 0)
 meaning_of readings.Version wording whole octets = version_text (slice_index octets 0)
-meaning_of readings.Quoted wording whole octets = codes " " ++ worded wording.utf8 octets
+meaning_of readings.Quoted wording whole octets = codes " " ++ worded wording.shown.utf8 octets
 meaning_of readings.Text wording whole octets =
-    codes " " ++ worded wording.utf8 (text_in_utf8 wording.encoding octets)
+    codes " " ++ worded wording.shown.utf8 (text_in_utf8 wording.encoding octets)
 meaning_of readings.Status wording whole octets = status_text (slice_index octets 0)
 meaning_of readings.Octets wording whole octets = []

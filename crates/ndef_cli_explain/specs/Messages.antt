@@ -17,6 +17,7 @@ use Rattle.ndef_cli_explain.specs.Wordings.{first_wording}
 use Rattle.ndef_cli_explain.specs.declared.recovery_place.Recovery.{Recovery}
 use Rattle.ndef_cli_explain.specs.declared.output.Output.{Output}
 use Rattle.ndef_cli_explain.specs.declared.remark_lists.RecordRemark.{RecordRemark}
+use Rattle.ndef_cli_explain.specs.declared.style.Shown.{Shown}
 
 -- the name of the input, if inputs are named; a byte that isn't plain has the form in it that it has in a line
 abbrev pub file_pairs : Option Text → List Pair
@@ -41,12 +42,12 @@ message_head number at bytes =
     codes "message " ++ decimal number ++ codes " at " ++ decimal at ++ codes ": bytes " ++ decimal bytes ++ codes "\n"
 
 -- the lines of a message and of its fields, of its payloads in several chunks, and of the remarks on its records
-abbrev pub AreMessageLines : (utf8 : Bool) (number at : ℕ) (input : List ℕ) → FieldReport → Text → Type 0
-AreMessageLines utf8 number at input reported text =
+abbrev pub AreMessageLines : Shown → (number at : ℕ) (input : List ℕ) → FieldReport → Text → Type 0
+AreMessageLines shown number at input reported text =
     (payloads : List Joined) × (few : Option Viewed) × (remarks : List RecordRemark)
     × ArePayloads 1 reported.items payloads × BeginsWithFew (take reported.taken input) few × AreRemarksIn few remarks
-    × (text ≡ message_head number at reported.taken ++ (field_texts (first_wording utf8 true) at input reported.fields
-    ++ (payload_texts utf8 payloads ++ record_remark_lines remarks)))
+    × (text ≡ message_head number at reported.taken ++ (field_texts (first_wording shown true) at input reported.fields
+    ++ (payload_texts shown payloads ++ record_remark_lines remarks)))
 
 -- NDEF 1.0, messages: the members for the records of the message that these bytes are, for the references of its
 -- handover, and for the remarks on records
@@ -72,16 +73,16 @@ IsMessageObject file number at input reported text =
 
 -- the output for a message: its lines, or its object
 abbrev pub IsMessageText : Form → (number at : ℕ) (input : List ℕ) → FieldReport → Text → Type 0
-IsMessageText (lines utf8) number at input reported text = AreMessageLines utf8 number at input reported text
+IsMessageText (lines shown) number at input reported text = AreMessageLines shown number at input reported text
 IsMessageText (objects file) number at input reported text = IsMessageObject file number at input reported text
 
 -- ---- records after others of their message
 
 -- the lines of their fields, and of their payloads in several chunks
-abbrev pub AreRecordLines : (utf8 : Bool) → Recovery → (bytes : List ℕ) → FieldReport → Text → Type 0
-AreRecordLines utf8 from bytes reported text =
+abbrev pub AreRecordLines : Shown → Recovery → (bytes : List ℕ) → FieldReport → Text → Type 0
+AreRecordLines shown from bytes reported text =
     (payloads : List Joined) × ArePayloads (from.records + 1) reported.items payloads
-    × (text ≡ field_texts (first_wording utf8 true) from.at bytes reported.fields ++ payload_texts utf8 payloads)
+    × (text ≡ field_texts (first_wording shown true) from.at bytes reported.fields ++ payload_texts shown payloads)
 
 -- the number of the record that they follow
 abbrev pub follows_pair : Recovery → Pair
@@ -96,7 +97,7 @@ IsRecordsObject file from bytes reported text =
 
 -- the output for them: their lines, or their object
 abbrev pub AreRecordsText : Form → Recovery → (bytes : List ℕ) → FieldReport → Text → Type 0
-AreRecordsText (lines utf8) from bytes reported text = AreRecordLines utf8 from bytes reported text
+AreRecordsText (lines shown) from bytes reported text = AreRecordLines shown from bytes reported text
 AreRecordsText (objects file) from bytes reported text = IsRecordsObject file from bytes reported text
 
 -- the same, or the output for a message where it begins here

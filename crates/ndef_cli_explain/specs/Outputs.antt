@@ -86,5 +86,5 @@ with_text out text = record { text = out.text ++ text; later = out.later }
 
 -- these lines, or these values of an array
 abbrev pub with_either : Form → Output → Text → List Data → Output
-with_either (lines utf8) out text values = with_text out text
+with_either (lines shown) out text values = with_text out text
 with_either (objects file) out text values = with_values out values

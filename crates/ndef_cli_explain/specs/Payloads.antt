@@ -1,5 +1,5 @@
 -- The lines and the objects of payloads in several chunks, joined.
-use Rattle.std.specs.Prelude.{◌≡◌, ℕ, Bool, true, List, [], ◌∷◌, ◌++◌, codes, decimal, length, map}
+use Rattle.std.specs.Prelude.{◌≡◌, ℕ, true, List, [], ◌∷◌, ◌++◌, codes, decimal, length, map}
 use Rattle.std.specs.List.{flat_map}
 use Rattle.ndef_format.specs.Kinds.{kind_of}
 use Rattle.ndef_format.specs.Messages.{Item, run_record}
@@ -9,11 +9,12 @@ use Rattle.ndef_fields.specs.declared.field.Field.{Field}
 use Rattle.ndef_cli.specs.Quoting.{Text}
 use Rattle.serde_json.specs.Data.{Data}
 use Rattle.ndef_cli_explain.specs.Fields.{field_texts, fields_array}
-use Rattle.ndef_cli_explain.specs.Forms.{Form, in_utf8}
+use Rattle.ndef_cli_explain.specs.Forms.{Form, shown_by}
 use Rattle.ndef_cli_explain.specs.OfEach.{AreOfEach}
 use Rattle.ndef_cli_explain.specs.Outputs.{Pair, array_of, number_value, object_of, with_either, with_pair}
 use Rattle.ndef_cli_explain.specs.Wordings.{first_wording}
 use Rattle.ndef_cli_explain.specs.declared.output.Output.{Output}
+use Rattle.ndef_cli_explain.specs.declared.style.Shown.{Shown}
 
 -- the payload of the record of this number: its octets and its fields
 pub record Joined : Type 0 where
@@ -42,14 +43,14 @@ payload_head number bytes =
     codes "payload of record " ++ decimal number ++ codes ": bytes " ++ decimal bytes ++ codes "\n"
 
 -- this line, and those of the fields of the payload
-abbrev pub payload_text : (utf8 : Bool) → Joined → Text
-payload_text utf8 joined =
+abbrev pub payload_text : Shown → Joined → Text
+payload_text shown joined =
     payload_head joined.number (length joined.octets)
-    ++ field_texts (first_wording utf8 true) 0 joined.octets joined.fields
+    ++ field_texts (first_wording shown true) 0 joined.octets joined.fields
 
 -- the lines of payloads
-abbrev pub payload_texts : (utf8 : Bool) → List Joined → Text
-payload_texts utf8 payloads = flat_map (payload_text utf8) payloads
+abbrev pub payload_texts : Shown → List Joined → Text
+payload_texts shown payloads = flat_map (payload_text shown) payloads
 
 -- the object of a joined payload: its fields, its number of bytes, and the number of its record
 abbrev pub payload_object : Joined → Data
@@ -64,7 +65,7 @@ payload_objects payloads = map payload_object payloads
 -- the lines of these payloads, or their objects
 abbrev pub with_payloads : Form → Output → List Joined → Output
 with_payloads form out payloads =
-    with_either form out (payload_texts (in_utf8 form) payloads) (payload_objects payloads)
+    with_either form out (payload_texts (shown_by form) payloads) (payload_objects payloads)
 
 -- the lines of a payload of this item, or its object, are appended
 abbrev pub AddsJoined : Form → (number : ℕ) → Item → (old new : Output) → Type 0

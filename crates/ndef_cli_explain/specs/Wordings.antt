@@ -10,6 +10,7 @@ use Rattle.ndef_cli.specs.Quoting.{Text, is_plain_octet, quoted, quoted_bytes}
 use Rattle.ucd_category.specs.GeneralCategory.{general_category}
 use Rattle.ucd_category.specs.GeneralCategoryGroup.{in_group}
 use Rattle.ucd_category.specs.declared.GeneralCategoryGroup.TheVariants as group
+use Rattle.ndef_cli_explain.specs.declared.style.Shown.{Shown}
 use Rattle.ndef_cli_explain.specs.declared.wording.TextEncoding.{TextEncoding}
 use Rattle.ndef_cli_explain.specs.declared.wording.TextEncoding.TheVariants as encodings
 use Rattle.ndef_cli_explain.specs.declared.wording.Wording.{Wording}
@@ -30,14 +31,14 @@ encoding_after encoding names.Status octets = encoding_by_status (slice_index oc
 encoding_after encoding names.Mark octets = encoding_by_mark (slice_index octets 0)
 encoding_after encoding _ octets = encoding
 
--- before the first field, with printable UTF-8 as itself or not, and with warnings or without
-abbrev pub first_wording : (utf8 remarks : Bool) → Wording
-first_wording utf8 remarks = record { utf8 = utf8; remarks = remarks; encoding = encodings.Utf8 }
+-- before the first field, with what is printed of octets, and with warnings or without
+abbrev pub first_wording : Shown → (remarks : Bool) → Wording
+first_wording shown remarks = record { shown = shown; remarks = remarks; encoding = encodings.Utf8 }
 
 -- after a field of this name with these octets
 abbrev pub wording_after : Wording → FieldName → (octets : List ℕ) → Wording
 wording_after wording name octets = record {
-  utf8 = wording.utf8;
+  shown = wording.shown;
   remarks = wording.remarks;
   encoding = encoding_after wording.encoding name octets;
 }

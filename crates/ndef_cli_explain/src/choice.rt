@@ -1,14 +1,15 @@
 //! The request that the words make.
 ghost use Rattle.std.specs.Prelude.{◌≡◌, map, string_bytes, IfOk, IfSome};
 ghost use Rattle.clap.specs.Words.{HasKind, fault_of, found_of, rows_of};
-ghost use Rattle.ndef_cli_explain.specs.Chosen.{IsAskedOutcome, Asks, asked_in, choice_in, chosen_color, color_named};
-ghost use Rattle.ndef_cli_explain.specs.Chosen.{files_in};
+ghost use Rattle.ndef_cli_explain.specs.Chosen.{IsAskedOutcome, Asks, asked_in, choice_in, chosen_color, chosen_wanted};
+ghost use Rattle.ndef_cli_explain.specs.Chosen.{color_named, files_in};
 ghost use Rattle.ndef_cli_explain.specs.CommandLine.{explain_app};
 
 use crate::command::explain_command;
+use crate::style::Shown;
 use clap::error::ErrorKind;
 use clap::{ArgMatches, Error};
-use ndef_cli::{ArgsError, flag_given, hex_given, limits_given, option_text};
+use ndef_cli::{ArgsError, flag_given, hex_given, limits_given, number_given, option_text};
 use ndef_value::{Limits, NoMemory};
 use std::alloc::{AllocError, Global};
 
@@ -21,6 +22,17 @@ pub(crate) enum Color {
     Never,
 }
 
+/// What is written of an input.
+#[derive(Clone, Copy)]
+pub(crate) enum Wanted {
+    /// Its bytes with their fields.
+    Explanation,
+    /// Its bytes as they are.
+    Octets,
+    /// The payload of the record of this number as it is, from 1 over all its messages.
+    Payload(u32),
+}
+
 /// The choices that the options make.
 #[derive(Clone, Copy)]
 pub(crate) struct ExplainChoice {
@@ -29,8 +41,8 @@ pub(crate) struct ExplainChoice {
     pub(crate) color: Color,
     /// Output is in JSON.
     pub(crate) json: bool,
-    /// Printable characters of UTF-8 are printed as themselves.
-    pub(crate) utf8: bool,
+    pub(crate) shown: Shown,
+    pub(crate) wanted: Wanted,
     pub(crate) limits: Limits,
 }
 
@@ -64,17 +76,35 @@ fn color_given(matches: &ArgMatches<'_>) -> Option<Color>
     }
 }
 
+/// Returns what is written of an input; None if a record is named without `--raw`, or by no number.
+fn wanted_given(matches: &ArgMatches<'_>) -> Option<Wanted>
+    ensures { result ≡ chosen_wanted (rows_of (found_of matches.now)) }
+{
+    let raw = flag_given(matches, "raw");
+    match option_text(matches, "record") {
+        None if raw => Some(Wanted::Octets),
+        None => Some(Wanted::Explanation),
+        Some(_) if raw => Some(Wanted::Payload(number_given(matches, "record", u32::MAX)?)),
+        Some(_) => None,
+    }
+}
+
 /// Returns the choices that the options make.
 fn choice_given(matches: &ArgMatches<'_>) -> Option<ExplainChoice>
     ensures { result ≡ choice_in (rows_of (found_of matches.now)) }
 {
     let limits = limits_given(matches)?;
     let color = color_given(matches)?;
+    let wanted = wanted_given(matches)?;
     Some(ExplainChoice {
         hex: hex_given(matches),
         color,
         json: flag_given(matches, "json"),
-        utf8: flag_given(matches, "utf8"),
+        shown: Shown {
+            utf8: flag_given(matches, "utf8"),
+            characters: flag_given(matches, "characters"),
+        },
+        wanted,
         limits,
     })
 }

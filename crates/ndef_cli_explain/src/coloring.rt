@@ -1,11 +1,15 @@
 //! Output in colour.
-ghost use Rattle.std.specs.Prelude.{◌≡◌, ◌++◌, OnOk};
-ghost use Rattle.ndef_cli_explain.specs.Coloring.{ink_of, is_fault_line, is_heading, is_refused_byte, colored};
-ghost use Rattle.ndef_cli_explain.specs.Coloring.{colored_in, colored_line, rendered, shown_in};
+ghost use Rattle.std.specs.Prelude.{◌≡◌};
+ghost use Rattle.ndef_cli.specs.declared.status.Status.TheVariants.{Clean};
+ghost use Rattle.ndef_message.specs.States.{sink_state};
+ghost use Rattle.ndef_cli_explain.specs.Coloring.{colored, colored_line, ink_of, is_fault_line, is_heading};
+ghost use Rattle.ndef_cli_explain.specs.Coloring.{is_refused_byte, rendered};
+ghost use Rattle.ndef_cli_explain.specs.Reporting.{SendsNext, SendsOut};
 
 use crate::fields::cut;
-use ndef_cli::cut_at;
-use ndef_value::{Bytes, NoMemory};
+use crate::sending::send_out;
+use ndef_cli::{Status, cut_at};
+use ndef_message::{Sink, WriteFault};
 
 /// The colour of a part of a line.
 #[derive(Clone, Copy)]
@@ -57,54 +61,68 @@ fn ink_of(line: &[u8]) -> Ink
     }
 }
 
-/// Appends a text in this rendition, and the usual one after it (ECMA-48, select graphic
-/// rendition).
-fn push_rendered(out: &mut Bytes, rendition: &[u8], text: &[u8]) -> Result<(), NoMemory>
-    ensures { OnOk result (out.new ≡ out.old ++ rendered rendition.now text.now) }
+/// Writes a text after what was sent, unless writing that failed.
+fn send_next<K: Sink>(
+    sent: Result<Status, WriteFault>,
+    text: &[u8],
+    sink: &mut K,
+) -> Result<Status, WriteFault>
+    ensures { SendsNext sent text.now (sink_state K.Sink sink.old) (sink_state K.Sink sink.new) result }
 {
-    out.extend(b"\x1b[")?;
-    out.extend(rendition)?;
-    out.extend(b"m")?;
-    out.extend(text)?;
-    out.extend(b"\x1b[0m")
+    match sent {
+        Ok(_) => send_out(text, Status::Clean, sink),
+        Err(fault) => Err(fault),
+    }
 }
 
-/// Appends a line in its ink.
-fn push_line(out: &mut Bytes, line: &[u8]) -> Result<(), NoMemory>
-    ensures { OnOk result (out.new ≡ out.old ++ colored_line line.now) }
+/// Writes a text after what was sent, in the rendition that these octets select, and then the usual one (ECMA-48,
+/// select graphic rendition).
+fn send_rendered<K: Sink>(
+    sent: Result<Status, WriteFault>,
+    opening: &[u8],
+    text: &[u8],
+    sink: &mut K,
+) -> Result<Status, WriteFault>
+    ensures { SendsNext sent (rendered opening.now text.now)
+        (sink_state K.Sink sink.old) (sink_state K.Sink sink.new) result }
+{
+    let opened = send_next(sent, opening, sink);
+    let written = send_next(opened, text, sink);
+    send_next(written, b"\x1b[0m", sink)
+}
+
+/// Writes a line after what was sent, in its ink.
+fn send_line<K: Sink>(
+    sent: Result<Status, WriteFault>,
+    line: &[u8],
+    sink: &mut K,
+) -> Result<Status, WriteFault>
+    ensures { SendsNext sent (colored_line line.now)
+        (sink_state K.Sink sink.old) (sink_state K.Sink sink.new) result }
 {
     match ink_of(line) {
-        Ink::Bold => push_rendered(out, b"1", line),
-        Ink::Red => push_rendered(out, b"31", line),
+        Ink::Bold => send_rendered(sent, b"\x1b[1m", line, sink),
+        Ink::Red => send_rendered(sent, b"\x1b[31m", line, sink),
         Ink::FaintPlace => {
             let (place, rest) = cut(line, 8);
-            push_rendered(out, b"2", place)?;
-            out.extend(rest)
+            let placed = send_rendered(sent, b"\x1b[2m", place, sink);
+            send_next(placed, rest, sink)
         }
-        Ink::Plain => out.extend(line),
+        Ink::Plain => send_next(sent, line, sink),
     }
 }
 
-/// Appends the lines of a text in colour.
-fn push_colored(out: &mut Bytes, text: &[u8]) -> Result<(), NoMemory>
-    ensures { OnOk result (out.new ≡ out.old ++ colored text.now) }
+/// Writes the lines of a text in colour, one after another.
+pub(crate) fn send_colored<K: Sink>(text: &[u8], sink: &mut K) -> Result<Status, WriteFault>
+    ensures { SendsOut (colored text.now) Clean
+        (sink_state K.Sink sink.old) (sink_state K.Sink sink.new) result }
 {
+    let mut sent = Ok(Status::Clean);
     let (mut line, mut rest) = cut_at(text, b'\n');
     while let Some(more) = rest {
-        push_line(out, line)?;
-        out.extend(b"\n")?;
+        let shown = send_line(sent, line, sink);
+        sent = send_next(shown, b"\n", sink);
         (line, rest) = cut_at(more, b'\n');
     }
-    push_line(out, line)
-}
-
-/// Appends a text, in colour or as it is.
-pub(crate) fn push_shown(out: &mut Bytes, in_color: bool, text: &[u8]) -> Result<(), NoMemory>
-    ensures { OnOk result (out.new ≡ out.old ++ shown_in in_color text.now) }
-{
-    if in_color {
-        push_colored(out, text)
-    } else {
-        out.extend(text)
-    }
+    send_line(sent, line, sink)
 }

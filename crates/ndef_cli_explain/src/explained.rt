@@ -1,11 +1,11 @@
-//! The whole output for an input.
-ghost use Rattle.std.specs.Prelude.{◌≡◌, ◌+◌, ◌<◌, ◌≤◌, ◌^◌, IfOk, IfSome, OnOk, length};
-ghost use Rattle.ndef_cli_explain.specs.Explained.{IsExplained, IsPastStop, IsStopWithin};
+//! The output for an input past the place where its messages stop.
+ghost use Rattle.std.specs.Prelude.{◌+◌, ◌<◌, ◌≤◌, IfSome, OnOk, length};
+ghost use Rattle.ndef_cli_explain.specs.Explained.{IsPastStop, IsStopWithin};
 ghost use Rattle.ndef_cli_explain.specs.Explaining.{Appends};
 ghost use Rattle.ndef_cli_explain.specs.Forms.{style_form};
 ghost use Rattle.ndef_cli_explain.specs.Recovery.{AreCounts, IsPastEnd, IsPastRefusal};
 
-use crate::explaining::{ExplainedMessages, Stop, push_messages, push_stop};
+use crate::explaining::{ExplainedMessages, Stop};
 use crate::fields::cut;
 use crate::output::Output;
 use crate::recovery::push_recovery;
@@ -13,15 +13,8 @@ use crate::recovery_place::{Recovery, message_at, past};
 use crate::refusals::{push_goes_on, push_sound};
 use crate::refused_record::{RefusedRecord, records_in, refused_record};
 use crate::style::Style;
-use ndef_value::{Bytes, Limits, NoMemory, Refusal};
+use ndef_value::{Limits, NoMemory, Refusal};
 use std::alloc::Global;
-
-/// The output for an input, and the point at which its messages stop.
-#[derive(Drop)]
-pub(crate) struct Explained {
-    pub text: Bytes,
-    pub stop: Stop,
-}
 
 /// Appends the output past a refused record, where its end is known.
 fn push_past_end(
@@ -72,7 +65,7 @@ fn push_past_refusal(
 }
 
 /// Appends the output past the place where the messages stop.
-fn push_past_stop(
+pub(crate) fn push_past_stop(
     alloc: Global,
     out: &mut Output,
     style: Style<'_>,
@@ -91,24 +84,4 @@ fn push_past_stop(
             push_past_refusal(alloc, out, style, limits, input, progress, refusal)
         }
     }
-}
-
-/// The whole output for an input: the fields of each message, where it is refused, and what is past a refused record
-/// whose end is known.
-pub(crate) fn explain(
-    alloc: Global,
-    style: Style<'_>,
-    limits: Limits,
-    input: &[u8],
-) -> Result<Explained, NoMemory>
-    ensures { IfOk result (λ made. IsExplained (style_form style.entry) limits input.now made.stop made.text) }
-{
-    let mut out = Output::new(alloc);
-    let progress = push_messages(alloc, &mut out, style, limits, input)?;
-    push_stop(alloc, &mut out, style, limits, &progress)?;
-    push_past_stop(alloc, &mut out, style, limits, input, &progress)?;
-    Ok(Explained {
-        text: out.text,
-        stop: progress.stop,
-    })
 }

@@ -86,19 +86,20 @@ fn push_fault_object(
     }
 }
 
-/// Appends the object of a line without a place and a colon in a line.
+/// Appends the object of a fault of a line of a dump in a line.
 #[tactic(auto, using(crate::proofs::OutputParts::line_parts))]
 fn push_line_fault(
     alloc: Global,
     out: &mut Output,
     file: Option<&str>,
+    fault: &[u8],
     number: u64,
 ) -> Result<(), NoMemory>
     ensures { OnOk result (out.new.text
-        ≡ out.old.text ++ json_line (line_fault (option_map (λ name. name.now) file.entry) number)) }
+        ≡ out.old.text ++ json_line (line_fault (option_map (λ name. name.now) file.entry) fault.now number)) }
 {
     out.begin_line()?;
-    out.string_member(b"fault", b"no place and colon")?;
+    out.string_member(b"fault", fault)?;
     push_file(alloc, out, file)?;
     out.number_member(b"line", number)?;
     out.end(b"}")?;
@@ -117,6 +118,8 @@ pub(crate) fn push_unread_object(
 {
     match unread {
         Unread::Ends(outcome) => push_fault_object(alloc, out, file, outcome),
-        Unread::NoPlace(number) => push_line_fault(alloc, out, file, number),
+        Unread::NoPlace(line) => push_line_fault(alloc, out, file, b"no place and colon", line),
+        Unread::Repeated(line) => push_line_fault(alloc, out, file, b"no line to repeat", line),
+        Unread::Words => push_named_fault(alloc, out, file, b"words, not bytes"),
     }
 }

@@ -4,16 +4,16 @@ ghost use Rattle.ndef_cli_explain.specs.Advice.{said_remark};
 ghost use Rattle.ndef_cli_explain.specs.Fields.{PlacesFit, back_text, field_object, field_text, fields_array};
 ghost use Rattle.ndef_cli_explain.specs.Fields.{front_text, meaning_pairs, octets_of, remark_pairs};
 ghost use Rattle.ndef_cli_explain.specs.Fields.{with_fields};
-ghost use Rattle.ndef_cli_explain.specs.Forms.{in_utf8, style_form};
+ghost use Rattle.ndef_cli_explain.specs.Forms.{shown_by, style_form};
 ghost use Rattle.ndef_cli_explain.specs.Meanings.{meaning_of, reading_of};
 ghost use Rattle.ndef_cli_explain.specs.Outputs.{with_either, with_pairs, with_value};
 ghost use Rattle.ndef_cli_explain.specs.Wordings.{first_wording};
 
 use crate::advice::{push_remark_line, said_remark};
-use crate::cells::{COLUMNS, push_cells, push_later_cells, push_start};
+use crate::cells::{COLUMNS, push_cells, push_column, push_later_rows, push_start};
 use crate::meaning::{push_meaning, whole_of};
 use crate::output::Output;
-use crate::style::{Style, in_utf8};
+use crate::style::{Style, shown_by};
 use crate::wording::Wording;
 use ndef_diagnostics::Remark;
 use ndef_fields::{Field, Fields};
@@ -47,14 +47,16 @@ struct PrintedField<'a> {
     octets: &'a [u8],
 }
 
-/// Appends the place of a field, its first eight octets and its name.
+/// Appends the place of a field, its first eight octets, their characters if that is requested, and its name.
 fn push_front(line: &mut Bytes, report: &PrintedField<'_>) -> Result<(), NoMemory>
-    ensures { OnOk result (line.new ≡ line.old ++ front_text report.now.at report.now.field report.now.octets.now) }
+    ensures { OnOk result (line.new ≡ line.old ++ front_text report.now.wording.shown.characters report.now.at
+        report.now.field report.now.octets.now) }
 {
-    let field = report.field;
+    let (field, octets) = (report.field, cut(report.octets, COLUMNS).0);
     push_start(line, report.at, field.at as u64, field.depth)?;
-    push_cells(line, cut(report.octets, COLUMNS).0)?;
+    push_cells(line, octets)?;
     line.extend(b"  ")?;
+    push_column(line, report.wording.shown.characters, octets)?;
     line.extend(field.name.text())
 }
 
@@ -73,7 +75,8 @@ fn push_back(alloc: Global, line: &mut Bytes, report: &PrintedField<'_>) -> Resu
         report.now.octets.now) }
 {
     push_said(alloc, line, report)?;
-    push_later_cells(line, report.field.depth, cut(report.octets, COLUMNS).1)?;
+    let (shown, later) = (report.wording.shown, cut(report.octets, COLUMNS).1);
+    push_later_rows(line, shown.characters, report.field.depth, later)?;
     line.extend(b"\n")
 }
 
@@ -170,7 +173,7 @@ fn push_field(
         ∷ [])) }
 {
     match style {
-        Style::Lines { .. } => push_field_lines(alloc, &mut out.text, report),
+        Style::Lines(_) => push_field_lines(alloc, &mut out.text, report),
         Style::Objects(_) => push_field_object(alloc, out, report),
     }
 }
@@ -188,9 +191,9 @@ pub(crate) fn push_fields(
 ) -> Result<(), NoMemory>
     requires { PlacesFit at fields }
     ensures { OnOk result (out.new ≡ with_fields (style_form style.entry) out.old
-        (first_wording (in_utf8 (style_form style.entry)) remarks) at bytes.now fields.entry) }
+        (first_wording (shown_by (style_form style.entry)) remarks) at bytes.now fields.entry) }
 {
-    let mut wording = Wording::new(in_utf8(style), remarks);
+    let mut wording = Wording::new(shown_by(style), remarks);
     for field in fields {
         let octets = octets_of(bytes, &field);
         let report = PrintedField {

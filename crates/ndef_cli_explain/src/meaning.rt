@@ -238,7 +238,7 @@ pub(crate) fn push_meaning(
         FieldReading::Version => push_version(line, octet),
         FieldReading::Quoted => {
             line.extend(b" ")?;
-            push_worded(line, wording.utf8, octets)
+            push_worded(line, wording.shown.utf8, octets)
         }
         FieldReading::Text => {
             line.extend(b" ")?;

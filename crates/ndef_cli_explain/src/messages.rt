@@ -16,7 +16,7 @@ use crate::record_objects::push_records_member;
 use crate::recovery_place::Recovery;
 use crate::references::push_references_member;
 use crate::remark_lists::{push_record_remark_lines, push_record_remarks_member, record_remarks};
-use crate::style::Style;
+use crate::style::{Shown, Style};
 use ndef_cli::push_number;
 use ndef_diagnostics::small_message;
 use ndef_fields::{FieldReport, Fields};
@@ -74,7 +74,7 @@ fn push_message_line(line: &mut Bytes, number: u64, at: u64, bytes: u64) -> Resu
 fn push_message_lines(
     alloc: Global,
     out: &mut Output,
-    utf8: bool,
+    shown: Shown,
     number: u64,
     at: u64,
     bytes: &[u8],
@@ -83,9 +83,9 @@ fn push_message_lines(
     requires few { length reported.items ≤ 65535 }
     requires fit { PlacesFit at reported.fields }
     ensures { OnOk result
-        (Appends (AreMessageLines utf8 number at bytes.now reported.entry) out.old.text out.new.text) }
+        (Appends (AreMessageLines shown number at bytes.now reported.entry) out.old.text out.new.text) }
 {
-    let style = Style::Lines { utf8 };
+    let style = Style::Lines(shown);
     push_message_line(&mut out.text, number, at, reported.taken)?;
     push_fields(alloc, out, style, true, at, bytes, reported.fields)?;
     push_payloads(alloc, out, style, 1, reported.items)?;
@@ -151,7 +151,7 @@ pub(crate) fn push_message(
         out.old.text out.new.text) }
 {
     match style {
-        Style::Lines { utf8 } => push_message_lines(alloc, out, utf8, number, at, bytes, reported),
+        Style::Lines(shown) => push_message_lines(alloc, out, shown, number, at, bytes, reported),
         Style::Objects(file) => push_message_object(alloc, out, file, number, at, bytes, reported),
     }
 }
@@ -160,7 +160,7 @@ pub(crate) fn push_message(
 fn push_record_lines(
     alloc: Global,
     out: &mut Output,
-    utf8: bool,
+    shown: Shown,
     from: Recovery,
     bytes: &[u8],
     reported: FieldReport<'_>,
@@ -168,9 +168,9 @@ fn push_record_lines(
     requires few { length reported.items ≤ 65535 }
     requires fit { PlacesFit from.at reported.fields }
     requires numbers { from.records + 65536 < 2 ^ 64 }
-    ensures { OnOk result (Appends (AreRecordLines utf8 from bytes.now reported.entry) out.old.text out.new.text) }
+    ensures { OnOk result (Appends (AreRecordLines shown from bytes.now reported.entry) out.old.text out.new.text) }
 {
-    let style = Style::Lines { utf8 };
+    let style = Style::Lines(shown);
     push_fields(alloc, out, style, true, from.at, bytes, reported.fields)?;
     push_payloads(alloc, out, style, from.records + 1, reported.items)?;
     Ok(())
@@ -219,7 +219,7 @@ pub(crate) fn push_later_records(
         out.old.text out.new.text) }
 {
     match style {
-        Style::Lines { utf8 } => push_record_lines(alloc, out, utf8, from, bytes, reported),
+        Style::Lines(shown) => push_record_lines(alloc, out, shown, from, bytes, reported),
         Style::Objects(file) => push_records_object(alloc, out, file, from, bytes, reported),
     }
 }

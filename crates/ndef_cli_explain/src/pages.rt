@@ -36,6 +36,12 @@ Without a FILE, and for the FILE -, it reads standard input.
                       terminal and NO_COLOR isn't set
   --json              print an object in JSON in a line for each message
   --utf8              print printable UTF-8 as itself, and not as \\xHH
+  --characters        print the bytes as characters too, a dot for one that isn't
+                      printable ASCII
+  --raw               write the bytes of the input as they are; with --hex those
+                      that its text spells
+  --record N          with --raw, write only the payload of record N of the input,
+                      1 to 4294967295
 
 Alone:
 
@@ -47,4 +53,5 @@ Examples:
   ndef-explain tag.bin
   ndef-make text Hello | ndef-explain
   echo d101085402656e48656c6c6f | ndef-explain --hex
+  ndef-explain --raw --record 1 tag.bin >payload.bin
 ";

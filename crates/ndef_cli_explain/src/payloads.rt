@@ -11,7 +11,7 @@ ghost use Rattle.ndef_cli_explain.specs.Payloads.{payload_text, with_payloads, w
 
 use crate::fields::{push_fields, push_fields_array};
 use crate::output::Output;
-use crate::style::Style;
+use crate::style::{Shown, Style};
 use ndef_cli::push_number;
 use ndef_fields::{Fields, payload_fields, payload_fields_are_exact};
 use ndef_lang::Kind;
@@ -45,17 +45,17 @@ fn push_payload_head(line: &mut Bytes, number: u64, bytes: u64) -> Result<(), No
 fn push_payload_lines(
     alloc: Global,
     out: &mut Output,
-    utf8: bool,
+    shown: Shown,
     number: u64,
     payload: &[u8],
     fields: Fields<'_>,
 ) -> Result<(), NoMemory>
     requires { PlacesFit 0 fields }
-    ensures { OnOk result (out.new ≡ with_text out.old (payload_text utf8
+    ensures { OnOk result (out.new ≡ with_text out.old (payload_text shown
         (record { number = number; octets = payload.now; fields = fields.entry }))) }
 {
     push_payload_head(&mut out.text, number, payload.len() as u64)?;
-    push_fields(alloc, out, Style::Lines { utf8 }, true, 0, payload, fields)
+    push_fields(alloc, out, Style::Lines(shown), true, 0, payload, fields)
 }
 
 /// Appends the object of a payload: its fields, its number of bytes, and the number of its record.
@@ -93,7 +93,7 @@ fn push_reported(
         (record { number = number; octets = payload.now; fields = fields.entry } ∷ [])) }
 {
     match style {
-        Style::Lines { utf8 } => push_payload_lines(alloc, out, utf8, number, payload, fields),
+        Style::Lines(shown) => push_payload_lines(alloc, out, shown, number, payload, fields),
         Style::Objects(_) => push_payload_object(alloc, out, number, payload, fields),
     }
 }

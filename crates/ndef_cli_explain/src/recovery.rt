@@ -93,7 +93,7 @@ fn push_refusal(
     let found = refused_record(read, refusal);
     let before = fields_of_front(from.at, cut(read, place).0);
     let said = said_of(read, bytes, refusal, None);
-    push_refused(alloc, out, style, from, cut(bytes, place).0, before, said)?;
+    push_refused(alloc, out, style, from, cut(bytes, place).0, before, &said)?;
     push_goes_on_where(alloc, out, style, from, found.before, found.end)?;
     Ok(past(from, found, found.end.unwrap_or(bytes.len())))
 }

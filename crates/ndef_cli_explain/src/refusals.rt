@@ -2,25 +2,26 @@
 ghost use Rattle.std.specs.Prelude.{◌≡◌, ◌++◌, ◌+◌, ◌<◌, ◌^◌, OnOk, IfSome, length, option_map};
 ghost use Rattle.ndef_diagnostics.specs.Wordings.{expected_text};
 ghost use Rattle.ndef_fields.specs.Reports.{AreFieldsBefore, IsMessageFront};
+ghost use Rattle.ndef_cli_explain.specs.Advice.{hint_line};
 ghost use Rattle.ndef_cli_explain.specs.Fields.{PlacesFit};
 ghost use Rattle.ndef_cli_explain.specs.Forms.{style_form};
 ghost use Rattle.ndef_cli_explain.specs.Outputs.{json_line, with_pairs, with_text, with_value};
-ghost use Rattle.ndef_cli_explain.specs.Refusals.{byte_line, byte_text, follows_pairs, goes_on_line, goes_on_object};
-ghost use Rattle.ndef_cli_explain.specs.Refusals.{goes_on_text, goes_on_where, hint_pairs, octet_pairs, place_pairs};
+ghost use Rattle.ndef_cli_explain.specs.Refusals.{byte_text, follows_pairs, goes_on_line, goes_on_object};
+ghost use Rattle.ndef_cli_explain.specs.Refusals.{goes_on_text, goes_on_where, octet_pairs, place_pairs};
 ghost use Rattle.ndef_cli_explain.specs.Refusals.{reason_lines, refusal_object, refused_lines, refused_object};
 ghost use Rattle.ndef_cli_explain.specs.Refusals.{refused_text, sound_line, sound_object, sound_text};
 
-use crate::advice::push_hint_line;
-use crate::cells::{push_cells, push_place, push_start};
+use crate::advice::{push_hint_line, push_hint_members};
+use crate::cells::{push_cells, push_column, push_place, push_start};
 use crate::fields::push_fields;
 use crate::messages::{begin_object, push_file};
 use crate::output::Output;
 use crate::recovery_place::Recovery;
 use crate::said_refusal::{RefusedByte, SaidRefusal};
-use crate::style::Style;
+use crate::style::{Shown, Style};
 use ndef_cli::push_number;
-use ndef_diagnostics::{Expected, Hint};
-use ndef_fields::{ByteField, Fields, fields_before, fields_before_are_exact};
+use ndef_diagnostics::Expected;
+use ndef_fields::{Fields, fields_before, fields_before_are_exact};
 use ndef_value::{Bytes, NoMemory, Reason, Refusal};
 use std::alloc::Global;
 
@@ -37,35 +38,27 @@ pub(crate) fn fields_of_front(at: u64, front: &[u8]) -> Fields<'_>
     fields_before(front)
 }
 
-/// Appends the line of a refused byte: its place, the byte itself, and its field.
-fn push_byte_line(
-    line: &mut Bytes,
-    at: u64,
-    offset: u64,
-    octet: u8,
-    byte: ByteField,
-) -> Result<(), NoMemory>
-    ensures { OnOk result (line.new ≡ line.old ++ byte_line (at + offset) octet byte) }
-{
-    push_start(line, at, offset, byte.depth)?;
-    push_cells(line, &[octet])?;
-    line.extend(b"^ ")?;
-    line.extend(byte.name.text())?;
-    line.extend(b"\n")
-}
-
-/// Appends the line of a refused byte, if there is one.
+/// Appends the line of a refused byte, if there is one: its place, the byte itself, its character if that is requested,
+/// and its field.
 fn push_byte(
     line: &mut Bytes,
+    characters: bool,
     at: u64,
     refusal: Refusal,
     byte: Option<RefusedByte>,
 ) -> Result<(), NoMemory>
-    ensures { OnOk result (line.new ≡ line.old ++ byte_text at refusal byte) }
+    ensures { OnOk result (line.new ≡ line.old ++ byte_text characters at refusal byte) }
 {
     match byte {
         None => Ok(()),
-        Some(byte) => push_byte_line(line, at, refusal.at, byte.octet, byte.field),
+        Some(byte) => {
+            push_start(line, at, refusal.at, byte.field.depth)?;
+            push_cells(line, &[byte.octet])?;
+            line.extend(b"^ ")?;
+            push_column(line, characters, &[byte.octet])?;
+            line.extend(byte.field.name.text())?;
+            line.extend(b"\n")
+        }
     }
 }
 
@@ -101,25 +94,32 @@ fn push_reason(
     line.extend(b"\n")
 }
 
+/// Appends the lines of the hint on a refusal, if there is one.
+fn push_hint(line: &mut Bytes, said: &SaidRefusal) -> Result<(), NoMemory>
+    ensures { OnOk result (line.new ≡ line.old ++ hint_line said.now.advice) }
+{
+    push_hint_line(line, said.advice.as_ref())
+}
+
 /// Appends the lines of a refusal after `at` bytes: those of the fields of this front, and the description.
 #[tactic(auto, unfolding(crate::specs::Outputs::with_text))]
 fn push_refused_lines(
     alloc: Global,
     out: &mut Output,
-    utf8: bool,
+    shown: Shown,
     at: u64,
     front: &[u8],
     before: Fields<'_>,
-    said: SaidRefusal,
+    said: &SaidRefusal,
 ) -> Result<(), NoMemory>
-    requires place { at + said.refusal.at < 2 ^ 64 }
+    requires place { at + said.now.refusal.at < 2 ^ 64 }
     requires fit { PlacesFit at before }
-    ensures { OnOk result (out.new.text ≡ out.old.text ++ refused_lines utf8 at front.now before.entry said) }
+    ensures { OnOk result (out.new.text ≡ out.old.text ++ refused_lines shown at front.now before.entry said.now) }
 {
-    push_fields(alloc, out, Style::Lines { utf8 }, false, at, front, before)?;
-    push_byte(&mut out.text, at, said.refusal, said.byte)?;
+    push_fields(alloc, out, Style::Lines(shown), false, at, front, before)?;
+    push_byte(&mut out.text, shown.characters, at, said.refusal, said.byte)?;
     push_reason(&mut out.text, at, said.refusal, said.expected)?;
-    push_hint_line(&mut out.text, said.hint)
+    push_hint(&mut out.text, said)
 }
 
 /// Appends the depth and the field of a refused byte, if there is one.
@@ -151,9 +151,9 @@ fn push_octet_member(
 
 /// Appends the object with the description of a refusal after `at` bytes.
 #[tactic(auto, using(crate::proofs::OutputParts::object_parts))]
-fn push_said(alloc: Global, out: &mut Output, at: u64, said: SaidRefusal) -> Result<(), NoMemory>
-    requires { at + said.refusal.at < 2 ^ 64 }
-    ensures { OnOk result (out.new ≡ with_value out.old (refusal_object at said)) }
+fn push_said(alloc: Global, out: &mut Output, at: u64, said: &SaidRefusal) -> Result<(), NoMemory>
+    requires { at + said.now.refusal.at < 2 ^ 64 }
+    ensures { OnOk result (out.new ≡ with_value out.old (refusal_object at said.now)) }
 {
     let reason = said.refusal.reason;
     out.begin(b"{")?;
@@ -176,22 +176,6 @@ fn push_follows(out: &mut Output, from: Recovery) -> Result<(), NoMemory>
     out.number_member(b"follows", from.records)
 }
 
-/// Appends the hint, if there is one.
-#[tactic(auto, using(crate::proofs::OutputParts::array_parts, crate::proofs::OutputParts::pair_parts))]
-fn push_hints(out: &mut Output, hint: Option<Hint>) -> Result<(), NoMemory>
-    ensures { OnOk result (out.new ≡ with_pairs out.old (hint_pairs hint)) }
-{
-    match hint {
-        None => Ok(()),
-        Some(hint) => {
-            out.name(b"hints")?;
-            out.begin(b"[")?;
-            out.string(hint.sentence().as_slice())?;
-            out.end(b"]")
-        }
-    }
-}
-
 /// Appends the object of a refusal in a line: the fields of this front, and the description.
 #[tactic(auto, using(crate::proofs::OutputParts::line_parts, crate::proofs::OutputParts::pair_parts))]
 fn push_refused_object(
@@ -201,16 +185,16 @@ fn push_refused_object(
     from: Recovery,
     front: &[u8],
     before: Fields<'_>,
-    said: SaidRefusal,
+    said: &SaidRefusal,
 ) -> Result<(), NoMemory>
-    requires place { from.at + said.refusal.at < 2 ^ 64 }
+    requires place { from.at + said.now.refusal.at < 2 ^ 64 }
     requires fit { PlacesFit from.at before }
     ensures { OnOk result (out.new.text ≡ out.old.text ++ json_line (refused_object
-        (option_map (λ name. name.now) file.entry) from front.now before.entry said)) }
+        (option_map (λ name. name.now) file.entry) from front.now before.entry said.now)) }
 {
     begin_object(alloc, out, false, file, from.at, front, before)?;
     push_follows(out, from)?;
-    push_hints(out, said.hint)?;
+    push_hint_members(out, said.advice.as_ref())?;
     out.number_member(b"message", from.message)?;
     out.name(b"refused")?;
     push_said(alloc, out, from.at, said)?;
@@ -226,16 +210,16 @@ pub(crate) fn push_refused(
     from: Recovery,
     front: &[u8],
     before: Fields<'_>,
-    said: SaidRefusal,
+    said: &SaidRefusal,
 ) -> Result<(), NoMemory>
-    requires place { from.at + said.refusal.at < 2 ^ 64 }
+    requires place { from.at + said.now.refusal.at < 2 ^ 64 }
     requires fit { PlacesFit from.at before }
     ensures { OnOk result (out.new.text
-        ≡ out.old.text ++ refused_text (style_form style.entry) from front.now before.entry said) }
+        ≡ out.old.text ++ refused_text (style_form style.entry) from front.now before.entry said.now) }
 {
     match style {
-        Style::Lines { utf8 } => {
-            push_refused_lines(alloc, out, utf8, from.at, front, before, said)
+        Style::Lines(shown) => {
+            push_refused_lines(alloc, out, shown, from.at, front, before, said)
         }
         Style::Objects(file) => push_refused_object(alloc, out, file, from, front, before, said),
     }
@@ -289,7 +273,7 @@ pub(crate) fn push_goes_on(
 {
     let (number, place) = (from.records + before as u64 + 1, from.at + end as u64);
     match style {
-        Style::Lines { .. } => push_goes_on_line(&mut out.text, number, place),
+        Style::Lines(_) => push_goes_on_line(&mut out.text, number, place),
         Style::Objects(file) => push_goes_on_object(alloc, out, file, place, from.message, number),
     }
 }
@@ -356,7 +340,7 @@ pub(crate) fn push_sound(
 {
     let all = last.sound + last.refused;
     match style {
-        Style::Lines { .. } => push_sound_line(&mut out.text, last.sound, all),
+        Style::Lines(_) => push_sound_line(&mut out.text, last.sound, all),
         Style::Objects(file) => push_sound_object(alloc, out, file, all, last.sound),
     }
 }

@@ -1,21 +1,20 @@
-//! The output for an input.
-ghost use Rattle.std.specs.Prelude.{◌≡◌, ◌++◌, false, IfErr, IfOk, OnOk};
-ghost use Rattle.ndef_message.specs.Inputs.{bytes_of};
+//! How inputs are explained, and the output for one of which there are no bytes.
+ghost use Rattle.std.specs.Prelude.{◌≡◌, ◌++◌, ◌&&◌, not, IfOk, OnOk};
 ghost use Rattle.ndef_cli.specs.Outcomes.{FitsPlace, status_of};
-ghost use Rattle.ndef_cli_explain.specs.Forms.{form_in, style_form};
+ghost use Rattle.ndef_cli_explain.specs.Forms.{form_in, look_values, style_form};
 ghost use Rattle.ndef_cli_explain.specs.Inputs.{FitsUnread};
-ghost use Rattle.ndef_cli_explain.specs.Running.{IsInputBody, IsReported, outcome_line, fault_line, unread_status, unread_text, heading};
-ghost use Rattle.ndef_cli_explain.specs.Running.{place_line, sheet, stop_status};
+ghost use Rattle.ndef_cli_explain.specs.Reporting.{dump_line, fault_line, heading, look_at, origin_in, outcome_line};
+ghost use Rattle.ndef_cli_explain.specs.Reporting.{stop_status, unread_status, unread_text};
+ghost use Rattle.ndef_cli_explain.specs.Shell.{origin_of};
 
-use crate::coloring::push_shown;
-use crate::explained::explain;
+use crate::choice::Wanted;
 use crate::explaining::Stop;
 use crate::faults::push_unread_object;
-use crate::inputs::{Unread, octets_of};
+use crate::inputs::Unread;
 use crate::output::Output;
-use crate::style::Style;
+use crate::shell::Source;
+use crate::style::{Look, Shown, Style};
 use ndef_cli::{Outcome, Status, outcome_text, push_number, push_quoted};
-use ndef_message::InputError;
 use ndef_value::{Bytes, Limits, NoMemory};
 use std::alloc::Global;
 
@@ -29,17 +28,10 @@ pub(crate) struct ReportOptions {
     pub(crate) in_color: bool,
     /// It is in JSON.
     pub(crate) json: bool,
-    /// Printable characters of UTF-8 are printed as themselves.
-    pub(crate) utf8: bool,
+    pub(crate) shown: Shown,
+    pub(crate) wanted: Wanted,
     /// A line names each of them.
     pub(crate) named: bool,
-}
-
-/// The output for an input, and its status.
-#[derive(Drop)]
-pub(crate) struct ExplainedInput {
-    pub(crate) text: Bytes,
-    pub(crate) status: Status,
 }
 
 /// The status of an ending.
@@ -58,22 +50,22 @@ fn status_of(outcome: Outcome) -> Status
 }
 
 /// The status of an input of which there are no bytes.
-fn unread_status(unread: Unread) -> Status
+pub(crate) fn unread_status(unread: Unread) -> Status
     ensures { result ≡ unread_status unread }
 {
     match unread {
         Unread::Ends(outcome) => status_of(outcome),
-        Unread::NoPlace(_) => Status::Refused,
+        Unread::NoPlace(_) | Unread::Repeated(_) | Unread::Words => Status::Refused,
     }
 }
 
-/// Appends the line for a line without a place and a colon.
-fn push_place_fault(text: &mut Bytes, line: u64) -> Result<(), NoMemory>
-    ensures { OnOk result (text.new ≡ text.old ++ place_line line) }
+/// Appends the line for a line of a dump that is at fault, with its end.
+fn push_dump_fault(text: &mut Bytes, fault: &[u8], line: u64, end: &[u8]) -> Result<(), NoMemory>
+    ensures { OnOk result (text.new ≡ text.old ++ dump_line fault.now line end.now) }
 {
-    text.extend(b"hex: no place and colon in line ")?;
+    text.extend(fault)?;
     push_number(text, line)?;
-    text.extend(b"\n")
+    text.extend(end)
 }
 
 /// Appends the line of an ending.
@@ -100,12 +92,23 @@ fn push_fault_line(text: &mut Bytes, unread: Unread) -> Result<(), NoMemory>
 {
     match unread {
         Unread::Ends(outcome) => push_outcome_line(text, outcome),
-        Unread::NoPlace(line) => push_place_fault(text, line),
+        Unread::NoPlace(line) => {
+            push_dump_fault(text, b"hex: no place and colon in line ", line, b"\n")
+        }
+        Unread::Repeated(line) => {
+            push_dump_fault(
+                text,
+                b"hex: no line to repeat in line ",
+                line,
+                b": use od -v\n",
+            )
+        }
+        Unread::Words => { text.extend(b"hex: words, not bytes: use hexdump -C or od -tx1\n") }
     }
 }
 
 /// The status where messages stop.
-fn stop_status(stop: Stop) -> Status
+pub(crate) fn stop_status(stop: Stop) -> Status
     ensures { result ≡ stop_status stop }
 {
     match stop {
@@ -128,16 +131,27 @@ fn push_heading(text: &mut Bytes, named: bool, name: &str) -> Result<(), NoMemor
 
 /// The form of the output for an input of this name.
 fn style_of<'a>(options: &ReportOptions, name: &'a str) -> Style<'a>
-    ensures { style_form result ≡ form_in options.now.json options.now.utf8 options.now.named name.now }
+    ensures { style_form result ≡ form_in options.now.json options.now.shown options.now.named name.now }
 {
     if !options.json {
-        return Style::Lines { utf8: options.utf8 };
+        return Style::Lines(options.shown);
     }
     Style::Objects(if options.named { Some(name) } else { None })
 }
 
+/// The source of an input of this name.
+fn source_of<'a>(options: &ReportOptions, name: &'a str) -> Source<'a>
+    ensures { origin_of result ≡ origin_in options.now name.now }
+{
+    Source {
+        name,
+        hex: options.hex,
+        limits: options.limits,
+    }
+}
+
 /// Appends the output for a fault.
-fn push_fault(
+pub(crate) fn push_fault(
     alloc: Global,
     out: &mut Output,
     style: Style<'_>,
@@ -147,81 +161,31 @@ fn push_fault(
     ensures { OnOk result (out.new.text ≡ out.old.text ++ unread_text (style_form style.entry) unread) }
 {
     match style {
-        Style::Lines { .. } => push_fault_line(&mut out.text, unread),
+        Style::Lines(_) => push_fault_line(&mut out.text, unread),
         Style::Objects(file) => push_unread_object(alloc, out, file, unread),
     }
 }
 
-/// Returns the output for a fault.
-fn tell_fault(alloc: Global, style: Style<'_>, unread: Unread) -> Result<ExplainedInput, NoMemory>
-    requires { FitsUnread unread }
-    ensures { IfOk result (λ reported.
-        (reported.text ≡ unread_text (style_form style.entry) unread) × (reported.status ≡ unread_status unread)) }
+/// How an input of this name is explained.
+pub(crate) fn look_at<'a>(options: &ReportOptions, name: &'a str) -> Look<'a>
+    ensures { look_values result ≡ look_at options.now name.now }
 {
-    let mut out = Output::new(alloc);
-    push_fault(alloc, &mut out, style, unread)?;
-    Ok(ExplainedInput {
-        text: out.text,
-        status: unread_status(unread),
-    })
-}
-
-/// Returns the output for the bytes of an input, or for the fault, if there are none.
-fn tell_octets(
-    alloc: Global,
-    style: Style<'_>,
-    limits: Limits,
-    octets: Result<Vec<u8>, Unread>,
-) -> Result<ExplainedInput, NoMemory>
-    requires { IfErr octets FitsUnread }
-    ensures { IfOk result (λ reported.
-        IsInputBody (style_form style.entry) limits (bytes_of octets) reported.text reported.status) }
-{
-    match octets {
-        Ok(octets) => {
-            let explained = explain(alloc, style, limits, octets.as_slice())?;
-            Ok(ExplainedInput {
-                text: explained.text,
-                status: stop_status(explained.stop),
-            })
-        }
-        Err(unread) => tell_fault(alloc, style, unread),
+    Look {
+        style: style_of(options, name),
+        in_color: !options.json && options.in_color,
+        source: source_of(options, name),
     }
 }
 
-/// Lines after the name of the input, where inputs are named, in colour or not.
-fn sheet_of(
+/// Returns the line of the name of an input, where lines name theirs.
+pub(crate) fn heading_of(
     alloc: Global,
     options: &ReportOptions,
     name: &str,
-    body: &[u8],
 ) -> Result<Bytes, NoMemory>
-    ensures { IfOk result (λ text. text ≡ sheet options.now false name.now body.now) }
+    ensures { IfOk result (λ line. line ≡ heading (not options.now.json && options.now.named) name.now) }
 {
-    let mut plain = Bytes::new(alloc);
-    push_heading(&mut plain, options.named, name)?;
-    plain.extend(body)?;
-    let mut text = Bytes::new(alloc);
-    push_shown(&mut text, options.in_color, plain.as_slice())?;
-    Ok(text)
-}
-
-/// Returns the output for an input of this name, from the result of reading it.
-pub(crate) fn tell(
-    alloc: Global,
-    options: &ReportOptions,
-    name: &str,
-    read: Result<Vec<u8>, InputError>,
-) -> Result<ExplainedInput, NoMemory>
-    ensures { IfOk result (λ reported. IsReported options.now name.now (bytes_of read) reported.text reported.status) }
-{
-    let octets = octets_of(alloc, options.hex, read);
-    let body = tell_octets(alloc, style_of(options, name), options.limits, octets)?;
-    if options.json {
-        return Ok(body);
-    }
-    Ok(ExplainedInput {
-        text: sheet_of(alloc, options, name, body.text.as_slice())?,
-        status: body.status,
-    })
+    let mut line = Bytes::new(alloc);
+    push_heading(&mut line, !options.json && options.named, name)?;
+    Ok(line)
 }

@@ -2,7 +2,8 @@
 ghost use Rattle.std.specs.Prelude.{◌≡◌, length};
 ghost use Rattle.ndef_cli_explain.specs.Refusals.{IsSaid, IsShownByte};
 
-use ndef_diagnostics::{Expected, Hint, expected_at};
+use crate::advice::Advice;
+use ndef_diagnostics::{Expected, expected_at};
 use ndef_fields::{ByteField, field_of_last};
 use ndef_value::Refusal;
 
@@ -14,12 +15,12 @@ pub(crate) struct RefusedByte {
 }
 
 /// A refusal, the refused byte, if there is one, what was wanted, and a hint, if one is given.
-#[derive(Clone, Copy)]
+#[derive(Drop)]
 pub(crate) struct SaidRefusal {
     pub(crate) refusal: Refusal,
     pub(crate) byte: Option<RefusedByte>,
     pub(crate) expected: Expected,
-    pub(crate) hint: Option<Hint>,
+    pub(crate) advice: Option<Advice>,
 }
 
 /// The refused byte, if there is one: its field by the bytes that are read, its octet by those of the input.
@@ -42,15 +43,15 @@ pub(crate) fn said_of(
     read: &[u8],
     bytes: &[u8],
     refusal: Refusal,
-    hint: Option<Hint>,
+    advice: Option<Advice>,
 ) -> SaidRefusal
     requires { length bytes.now ≡ length read.now }
-    ensures { IsSaid read.now bytes.now refusal hint result }
+    ensures { IsSaid read.now bytes.now refusal advice result }
 {
     SaidRefusal {
         refusal,
         byte: shown_byte(read, bytes, refusal),
         expected: expected_at(read, refusal),
-        hint,
+        advice,
     }
 }

@@ -13,6 +13,9 @@ const READER: Reader<'static> = Reader {
     most: MOST as u64,
 };
 
+/// The note on standard error if the program waits for a terminal.
+const WAITS: &[u8] = b"ndef-explain: reading messages from standard input\n";
+
 /// Whether output takes colours: it goes to a terminal, and `NO_COLOR` isn't set, or is empty.
 fn takes_color(rt: &HostRuntime) -> bool {
     let wants_none = match std::env::var(rt, "NO_COLOR") {
@@ -25,7 +28,7 @@ fn takes_color(rt: &HostRuntime) -> bool {
 
 /// Runs the program for the words. If they don't parse, clap prints the error on standard error.
 fn run_args<K: Sink>(rt: &HostRuntime, words: &[String], sink: &mut K) -> Status {
-    let mut inputs = Files::new(rt, READER);
+    let mut inputs = Files::new(rt, READER, WAITS);
     let status = run(rt.alloc(), words, takes_color(rt), &mut inputs, sink);
     if status == Status::Usage
         && let Some(error) = args_fault(rt.alloc(), words)

@@ -6,6 +6,7 @@ ghost use Rattle.ndef_cli_explain.specs.Wordings.{from_wide, is_printable, text_
 ghost use Rattle.ndef_cli_explain.specs.Wordings.{worded, worded_char, worded_utf8, wording_after};
 
 use crate::meaning::first;
+use crate::style::Shown;
 use ndef_cli::{push_quoted, push_quoted_bytes};
 use ndef_fields::FieldName;
 use ndef_value::{Bytes, NoMemory};
@@ -25,8 +26,7 @@ pub(crate) enum TextEncoding {
 /// The way in which octets are put into words.
 #[derive(Clone, Copy)]
 pub(crate) struct Wording {
-    /// Printable characters of UTF-8 are printed as themselves.
-    pub(crate) utf8: bool,
+    pub(crate) shown: Shown,
     /// Warnings about fields are printed.
     pub(crate) remarks: bool,
     /// The encoding of the next text.
@@ -68,11 +68,11 @@ fn encoding_after(encoding: TextEncoding, name: FieldName, octets: &[u8]) -> Tex
 
 impl Wording {
     /// Returns the wording before the first field of a message, which is accepted or refused.
-    pub(crate) fn new(utf8: bool, remarks: bool) -> Wording
-        ensures { result ≡ first_wording utf8 remarks }
+    pub(crate) fn new(shown: Shown, remarks: bool) -> Wording
+        ensures { result ≡ first_wording shown remarks }
     {
         Wording {
-            utf8,
+            shown,
             remarks,
             encoding: TextEncoding::Utf8,
         }
@@ -83,7 +83,7 @@ impl Wording {
         ensures { result ≡ wording_after self name octets.now }
     {
         Wording {
-            utf8: self.utf8,
+            shown: self.shown,
             remarks: self.remarks,
             encoding: encoding_after(self.encoding, name, octets),
         }
@@ -195,11 +195,11 @@ pub(crate) fn push_text(
     octets: &[u8],
 ) -> Result<(), NoMemory>
     ensures { OnOk result (line.new
-        ≡ line.old ++ worded wording.utf8 (text_in_utf8 wording.encoding octets.now)) }
+        ≡ line.old ++ worded wording.shown.utf8 (text_in_utf8 wording.encoding octets.now)) }
 {
     match wording.encoding {
-        TextEncoding::Utf8 => push_worded(line, wording.utf8, octets),
-        TextEncoding::BigEndian => push_wide(alloc, line, wording.utf8, false, octets),
-        TextEncoding::LittleEndian => push_wide(alloc, line, wording.utf8, true, octets),
+        TextEncoding::Utf8 => push_worded(line, wording.shown.utf8, octets),
+        TextEncoding::BigEndian => push_wide(alloc, line, wording.shown.utf8, false, octets),
+        TextEncoding::LittleEndian => push_wide(alloc, line, wording.shown.utf8, true, octets),
     }
 }

@@ -11,7 +11,7 @@ use Rattle.ndef_cli_explain.proofs.faults.push_line_fault.Goals as goal
 pub returns : goal.returns
 returns c =
     let files = file_pairs (option_map (λ name. name.now) c.args.file) in
-    let fault : Pair = (codes "fault", string (codes "no place and colon")) in
+    let fault : Pair = (codes "fault", string c.args.fault.now) in
     let line : Pair = (codes "line", number_value c.args.number) in
     let begun = c.begin_line.new.self in
     let members = c.in_ok-number_member.ensures ∙ ap (λ o. with_pair o line) (c.in_ok-push_file.ensures ∙ ap (λ o. with_pairs o files) c.in_ok-string_member.ensures)

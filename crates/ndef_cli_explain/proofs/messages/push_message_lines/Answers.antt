@@ -12,12 +12,12 @@ pub returns : goal.returns
 returns c =
     let puts = c.in_ok-push_payloads.ensures in
     let reported = c.args.reported in
-    let utf8 = c.args.utf8 in
+    let shown = c.args.shown in
     let few = c.small_message-few.result in
     let remarks = c.in_ok-remarks.remarks.items in
     let head = message_head c.args.number c.args.at reported.taken in
-    let fields = field_texts (first_wording utf8 true) c.args.at c.args.bytes.now reported.fields in
-    let payloads = payload_texts utf8 puts.0 in
+    let fields = field_texts (first_wording shown true) c.args.at c.args.bytes.now reported.fields in
+    let payloads = payload_texts shown puts.0 in
     let said = record_remark_lines remarks in (
       head ++ (fields ++ (payloads ++ said)),
       (
