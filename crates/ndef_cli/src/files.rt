@@ -4,13 +4,14 @@ ghost use Rattle.std.specs.Prelude.{⊤};
 use crate::{Inputs, Reader, open_file, tell_cause};
 use ndef_message::{InputError, StdSource, read_all};
 use std::alloc::Global;
-use std::io::{BufReader, ErrorKind, Read};
+use std::io::{BufReader, ErrorKind, IsTerminal, Read, Write};
 
 /// The files of the system, and standard input, as a program reads them.
 #[derive(Drop)]
 pub struct Files<'a> {
     rt: &'a HostRuntime,
     reader: Reader<'static>,
+    waits: &'static [u8],
 }
 
 /// All that a reader gives, at most this many bytes.
@@ -22,9 +23,17 @@ fn read_from<R: Read + Drop>(alloc: Global, reader: R, most: u64) -> Result<Vec<
 }
 
 impl<'a> Files<'a> {
-    /// The files as a program reads them.
-    pub fn new(rt: &'a HostRuntime, reader: Reader<'static>) -> Files<'a> {
-        Files { rt, reader }
+    /// The files as a program reads them, and the note on standard error if it waits for a terminal.
+    pub fn new(rt: &'a HostRuntime, reader: Reader<'static>, waits: &'static [u8]) -> Files<'a> {
+        Files { rt, reader, waits }
+    }
+
+    /// Returns the bytes of standard input.
+    fn read_input(&self, alloc: Global) -> Result<Vec<u8>, InputError> {
+        if self.rt.stdin().is_terminal() {
+            let _ = self.rt.stderr().write_all(self.waits);
+        }
+        read_from(alloc, self.rt.reader(), self.reader.most)
     }
 
     /// Returns the bytes of a file, or the reason why it can't be read, which is printed on standard error too.
@@ -52,7 +61,7 @@ impl<'a> Inputs for Files<'a> {
 
     fn read(&mut self, alloc: Global, name: &str) -> Result<Vec<u8>, InputError> {
         if name == "-" {
-            read_from(alloc, self.rt.reader(), self.reader.most)
+            self.read_input(alloc)
         } else {
             self.read_file(alloc, name)
         }

@@ -12,6 +12,9 @@ const READER: Reader<'static> = Reader {
     most: MOST as u64,
 };
 
+/// The note on standard error if the program waits for a terminal.
+const WAITS: &[u8] = b"ndef-make: reading from standard input\n";
+
 /// Runs the program for the words. If a word is unknown or missing, clap prints the error on standard error.
 fn run_args<K: Sink, L: Sink>(
     rt: &HostRuntime,
@@ -20,7 +23,7 @@ fn run_args<K: Sink, L: Sink>(
     lines: &mut L,
 ) -> Status {
     let terminal = rt.stdout().is_terminal();
-    let mut inputs = Files::new(rt, READER);
+    let mut inputs = Files::new(rt, READER, WAITS);
     let status = run(rt.alloc(), words, terminal, &mut inputs, sink, lines);
     if status == Status::Usage
         && let Some(error) = args_fault(rt.alloc(), words)
