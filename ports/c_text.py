@@ -9,8 +9,9 @@ numbers, unless a load or a store uses it at once (`is_at_once`).
 
 import re
 
-from module_text import (Array, Cast, Fields, Global, Int, Local, Moved, NO_EFFECT, Nothing, Number, Pointer, Struct, Unknown,
-                         Void, type_of_result)
+from c_helpers import HELPERS, NEEDED, WIDTHS
+from module_text import (Array, Cast, Combined, Double, Fields, Global, Int, Local, Moved, NO_EFFECT, Nothing, Number, Pointer, Real, Struct,
+                         Unknown, Void, type_of_result)
 
 PREFIX = 'nd_'
 DEEPEST = 12  # how deep an expression may be
@@ -19,66 +20,14 @@ OPERATORS = {'add': '+', 'sub': '-', 'mul': '*', 'and': '&', 'or': '|', 'xor': '
              'lshr': '>>'}
 COMPARED = {'eq': '==', 'ne': '!=', 'ult': '<', 'ule': '<=', 'ugt': '>', 'uge': '>=', 'slt': '<', 'sle': '<=', 'sgt': '>',
             'sge': '>='}
-PURE = {*OPERATORS, 'ashr', 'icmp', 'select', 'zext', 'sext', 'trunc', 'ptrtoaddr', 'ptrtoint', 'inttoptr',
-        'getelementptr', 'extractvalue', 'insertvalue', 'freeze'}
+FRACTIONS = {'fadd': '+', 'fsub': '-', 'fmul': '*', 'fdiv': '/'}
+# Comparisons of fractions: `o` is false where one is no number, and `u` true, as the opposite comparison is false.
+ORDERED = {'oeq': '==', 'une': '!=', 'olt': '<', 'ole': '<=', 'ogt': '>', 'oge': '>='}
+UNORDERED = {'ult': '>=', 'ule': '>', 'ugt': '<=', 'uge': '<'}
+PURE = {*OPERATORS, *FRACTIONS, 'ashr', 'icmp', 'fcmp', 'fneg', 'uitofp', 'bitcast', 'select', 'zext', 'sext', 'trunc', 'ptrtoaddr', 'ptrtoint',
+        'inttoptr', 'getelementptr', 'extractvalue', 'insertvalue', 'freeze'}
+FENCE = 'llvm.arithmetic.fence.f64'  # what rounds a fraction to 64 bits
 POINTER = 'unsigned char *'
-WIDTHS = (8, 16, 32, 64)
-
-HELPERS = {
-    'bswap_i16': 'static uint16_t nd_bswap_i16(uint16_t v) { return (uint16_t)(v << 8 | v >> 8); }',
-    'bswap_i32': '''static uint32_t nd_bswap_i32(uint32_t v) {
-    return v << 24 | (v & 0xFF00U) << 8 | (v >> 8 & 0xFF00U) | v >> 24;
-}''',
-    'bswap_i64': '''static uint64_t nd_bswap_i64(uint64_t v) {
-    return (uint64_t)nd_bswap_i32((uint32_t)v) << 32 | nd_bswap_i32((uint32_t)(v >> 32));
-}''',
-    'load_part': '''static uint64_t nd_load_part(const unsigned char *from, size_t size) {
-    uint64_t v = 0;
-    nd_memcpy(&v, from, size);
-    return v;
-}''',
-    'store_part': '''static void nd_store_part(unsigned char *to, uint64_t v, size_t size) { nd_memcpy(to, &v, size); }''',
-    # No object has more bytes than a ptrdiff_t counts. GCC doesn't know that of a sum, and would warn.
-    'copy': '''static void nd_copy(unsigned char *to, const unsigned char *from, uint64_t size) {
-    size_t count = (size_t)size;
-    if (count - 1 < (size_t)PTRDIFF_MAX) nd_memcpy(to, from, count);
-}''',
-    'move': '''static void nd_move(unsigned char *to, const unsigned char *from, uint64_t size) {
-    size_t count = (size_t)size;
-    if (count - 1 < (size_t)PTRDIFF_MAX) nd_memmove(to, from, count);
-}''',
-    'fill': '''static void nd_fill(unsigned char *to, uint8_t octet, uint64_t size) {
-    if (size) nd_memset(to, octet, (size_t)size);
-}''',
-}
-# Helpers for each width, whose number of bits stands for %d.
-FOR_WIDTHS = {
-    'load_%d': '''static uint%d_t nd_load_%d(const unsigned char *from) {
-    uint%d_t v;
-    nd_memcpy(&v, from, sizeof v);
-    return v;
-}''',
-    'store_%d': 'static void nd_store_%d(unsigned char *to, uint%d_t v) { nd_memcpy(to, &v, sizeof v); }',
-    'umin_i%d': 'static uint%d_t nd_umin_i%d(uint%d_t a, uint%d_t b) { return a < b ? a : b; }',
-    'umax_i%d': 'static uint%d_t nd_umax_i%d(uint%d_t a, uint%d_t b) { return a > b ? a : b; }',
-    'smin_i%d': 'static uint%d_t nd_smin_i%d(uint%d_t a, uint%d_t b) { return (int%d_t)a < (int%d_t)b ? a : b; }',
-    'smax_i%d': 'static uint%d_t nd_smax_i%d(uint%d_t a, uint%d_t b) { return (int%d_t)a > (int%d_t)b ? a : b; }',
-    'usub_sat_i%d': 'static uint%d_t nd_usub_sat_i%d(uint%d_t a, uint%d_t b) { return (uint%d_t)(a > b ? a - b : 0); }',
-    'uadd_sat_i%d': '''static uint%d_t nd_uadd_sat_i%d(uint%d_t a, uint%d_t b) {
-    uint%d_t sum = (uint%d_t)(a + b);
-    return sum < a ? (uint%d_t)-1 : sum;
-}''',
-    'cttz_i%d': '''static uint%d_t nd_cttz_i%d(uint%d_t v) {
-    uint%d_t count = 0;
-    if (!v) return %d;
-    while (!(v & 1)) { v >>= 1; count++; }
-    return count;
-}''',
-}
-OF_WIDTHS = {name % bits: text.replace('%d', str(bits)) for name, text in FOR_WIDTHS.items() for bits in WIDTHS}
-# Those of pointers call those of numbers, which come first.
-HELPERS = {**OF_WIDTHS, **HELPERS}
-NEEDED = {'bswap_i64': ['bswap_i32']}
 
 
 def stop(why):
@@ -91,6 +40,11 @@ def width(type_of):
         if type_of.bits <= bits:
             return bits
     return stop(f'an integer of {type_of.bits} bits')
+
+
+def is_wide(type_of):
+    """Whether a number has 128 bits: it is two of 64 in C."""
+    return type_of == Int(128)
 
 
 def number(value, type_of):
@@ -150,10 +104,18 @@ class Names:
     def help(self, name):
         if name not in HELPERS:
             stop(f'no helper {name}')
-        self.helpers.update([name, *NEEDED.get(name, [])])
+        self.helpers.update([name, *NEEDED.get(name, ['wide'] if name.endswith('_i128') else [])])
         return PREFIX + name
 
+    def helped(self, name, *arguments):
+        """A call of a helper."""
+        return f'{self.help(name)}({", ".join(arguments)})'
+
     def type(self, type_of):
+        if is_wide(type_of):
+            return f'struct {self.help("wide")} '
+        if isinstance(type_of, Double):
+            return 'double '
         if isinstance(type_of, Int):
             return f'uint{width(type_of)}_t '
         if isinstance(type_of, Pointer):
@@ -171,10 +133,17 @@ class Names:
         text = self.type(field)
         if isinstance(field, Struct):
             return text.strip().replace(f'struct {PREFIX}', 'struct_') + '_end'
-        return 'ptr' if isinstance(field, Pointer) else str(width(field))
+        return 'ptr' if isinstance(field, Pointer) else 'real' if isinstance(field, Double) else str(width(field))
 
     def value(self, value, type_of):
         """A value that is itself in C."""
+        if isinstance(value, Number) and is_wide(type_of):
+            return self.helped('wide', number(value.value, Int(64)), number(value.value >> 64, Int(64)))
+        if isinstance(value, Real):
+            return self.helped('real', number(value.bits, Int(64)))
+        if isinstance(value, Combined):
+            first, second = self.value(value.first, value.type), self.value(value.second, value.type)
+            return cut(value.type, f'({first} {OPERATORS[value.kind]} {second})')
         if isinstance(value, Number):
             return number(value.value, type_of)
         if isinstance(value, Global):
@@ -197,7 +166,9 @@ class Names:
         if isinstance(type_of, Struct):
             self.type(type_of)
             return f'(({self.type(type_of).strip()}) {{ 0 }})'
-        return '0' if isinstance(type_of, Int) else f'({POINTER})0'
+        if is_wide(type_of):
+            return self.value(Number(0), type_of)
+        return '0' if isinstance(type_of, (Int, Double)) else f'({POINTER})0'
 
 
 class Body:
@@ -284,6 +255,10 @@ class Body:
     def binary(self, line):
         type_of, kind = line.type, line.kind
         first, second = self.values(line)
+        if is_wide(type_of):
+            return self.names.helped(f'{kind}_i128', first, second)
+        if kind in FRACTIONS:
+            return self.names.helped('fence', f'{first} {FRACTIONS[kind]} {second}')
         if kind == 'add' and type_of == Int(64) and isinstance(line.operands[1], Number):
             self.sums[line.result] = first, line.operands[1].value
         if kind in ('shl', 'lshr', 'ashr'):
@@ -307,11 +282,31 @@ class Body:
 
     def compare(self, line):
         first, second = self.values(line)
+        if is_wide(line.type):
+            return self.compare_wide(line.detail, first, second)
         if line.detail[0] == 's':
             first, second = signed(line.type, first), signed(line.type, second)
         elif isinstance(line.type, Pointer) and line.detail not in ('eq', 'ne'):
             first, second = f'(uintptr_t){first}', f'(uintptr_t){second}'
         return f'({first} {COMPARED[line.detail]} {second})'
+
+    def compare_wide(self, kind, first, second):
+        if kind in ('eq', 'ne'):
+            return f'({"!" if kind == "ne" else ""}{self.names.helped("eq_i128", first, second)})'
+        if kind[1:] in ('gt', 'le'):
+            first, second = second, first
+        return f'({"!" if kind[1:] in ("le", "ge") else ""}{self.names.helped(f"{kind[0]}lt_i128", first, second)})'
+
+    def compare_fractions(self, line):
+        first, second = self.values(line)
+        kind = line.detail
+        if kind in ORDERED:
+            return f'({first} {ORDERED[kind]} {second})'
+        if kind in UNORDERED:
+            return f'(!({first} {UNORDERED[kind]} {second}))'
+        if kind != 'ord':
+            stop(f'a comparison {kind}')
+        return f'({first} == {first} && {second} == {second})'
 
     def select(self, line):
         condition = self.value(line.operands[0], Int(1))
@@ -323,6 +318,8 @@ class Body:
     def cast(self, line):
         value, = self.values(line)
         kind, wanted = line.kind, line.detail
+        if is_wide(line.type) or is_wide(wanted) or isinstance(wanted, Double) or isinstance(line.type, Double):
+            return self.cast_other(kind, line.type, wanted, value)
         if kind == 'inttoptr':
             return self.numbered(line, value)
         if kind in ('ptrtoaddr', 'ptrtoint'):
@@ -330,6 +327,20 @@ class Body:
         if kind == 'sext':
             value = f'(0 - (uint64_t){value})' if line.type.bits == 1 else signed(line.type, value)
         return cut(wanted, value) if kind != 'zext' else f'(uint{width(wanted)}_t){value}'
+
+    def cast_other(self, kind, type_of, wanted, text):
+        """A number of 128 bits or a fraction as another value, or another as that."""
+        if kind == 'uitofp' and not is_wide(type_of):
+            return f'(double){text}'
+        if kind == 'bitcast' and {type_of, wanted} == {Int(64), Double()}:
+            return self.names.helped('real' if type_of == Int(64) else 'bits', text)
+        if kind == 'trunc' and is_wide(type_of):
+            return cut(wanted, f'{text}.low')
+        if kind == 'zext' and is_wide(wanted):
+            return self.names.helped('wide', text, '0')
+        if kind == 'sext' and type_of == Int(64):
+            return self.names.helped('sext_i128', text)
+        return stop(f'a cast {kind} of {type_of} to {wanted}')
 
     def numbered(self, line, text):
         """A number as an address. A sum with a constant that is used at once is one of pointers."""
@@ -371,6 +382,10 @@ class Body:
 
     def loaded(self, line):
         pointer = self.value(line.operands[0], Pointer())
+        if is_wide(line.type):
+            return self.names.helped('load_128', pointer)
+        if isinstance(line.type, Double):
+            return self.names.helped('real', self.names.helped('load_64', pointer))
         if not isinstance(line.type, Int):
             stop(f'a load: {line.line}')
         if line.type.bits not in WIDTHS and line.type.bits > 8:
@@ -399,8 +414,12 @@ class Body:
 
     def expression(self, line):
         """The value of a pure instruction or a load."""
-        if line.kind in OPERATORS or line.kind == 'ashr':
+        if line.kind in OPERATORS or line.kind in FRACTIONS or line.kind == 'ashr':
             return self.binary(line)
+        if line.kind == 'fcmp':
+            return self.compare_fractions(line)
+        if line.kind == 'fneg':
+            return f'(-{self.values(line)[0]})'
         if line.kind == 'icmp':
             return self.compare(line)
         if line.kind == 'select':
@@ -462,18 +481,23 @@ class Body:
             self.set(line.result, f'(uint8_t){text}' if line.kind in OPERATORS and line.type == Int(1) else text)
 
     def room_for(self, line):
-        if line.detail > 8:
+        if line.detail > 16:
             stop(f'memory aligned to {line.detail}: {line.line}')
         if all(line is not other for other in self.blocks[0][1]):
             stop('memory that a block after the first asks for')
-        self.rooms[line.result] = f'{self.variables[line.result]}.b'
+        address = f'{self.variables[line.result]}.b'
+        self.rooms[line.result] = address if line.detail <= 8 else self.names.helped('aligned', address)
 
     def stored(self, line):
         value, pointer = self.value(line.operands[0], line.type), self.value(line.operands[1], Pointer())
-        if isinstance(line.type, Int) and line.type.bits not in WIDTHS and line.type.bits > 8:
+        if is_wide(line.type):
+            self.say(f'{self.names.helped("store_128", pointer, value)};')
+        elif isinstance(line.type, Int) and line.type.bits not in WIDTHS and line.type.bits > 8:
             self.say(f'{self.names.help("store_part")}({pointer}, {value}, {(line.type.bits + 7) // 8});')
         elif isinstance(line.type, Int):
             self.say(f'{self.names.help(f"store_{width(line.type)}")}({pointer}, {value});')
+        elif isinstance(line.type, Double):
+            self.say(f'{self.names.helped("store_64", pointer, self.names.helped("bits", value))};')
         else:
             stop(f'a store: {line.line}')
 
@@ -492,8 +516,8 @@ class Body:
             if name not in self.names.of:
                 stop(f'no function {name}')
             return f'{self.names.of[name]}({", ".join(arguments)})'
-        name = name[5:].replace('.', '_')
-        count = 1 if name.startswith(('cttz', 'bswap')) else 2
+        name = 'fence' if name == FENCE else name[5:].replace('.', '_')
+        count = 1 if name.startswith(('cttz', 'ctlz', 'bswap', 'abs', 'fence')) else 2
         return f'{self.names.help(name)}({", ".join(arguments[:count])})'
 
     def returned(self, line, text):
@@ -598,7 +622,8 @@ class Body:
         for _, lines in self.blocks:
             for line in lines:
                 if line.kind == 'alloca' and line.result in self.used:
-                    groups.setdefault(max(size_of(line.type), 1), []).append(self.variables[line.result])
+                    size = max(size_of(line.type), 1) + (15 if line.detail > 8 else 0)
+                    groups.setdefault(size, []).append(self.variables[line.result])
         return ''.join(f'    ND_ROOM({size}) {", ".join(names)};\n' for size, names in groups.items())
 
     def unused(self):
@@ -637,8 +662,10 @@ def locals_of(values):
 
 
 def size_of(type_of):
-    if isinstance(type_of, Pointer):
+    if isinstance(type_of, (Pointer, Double)):
         return 8
+    if is_wide(type_of):
+        return 16
     if isinstance(type_of, Int):
         return width(type_of) // 8
     if isinstance(type_of, Array):

@@ -2,6 +2,7 @@
 refused by Unknown, which names the line."""
 
 import re
+import struct
 from dataclasses import dataclass
 
 
@@ -17,6 +18,11 @@ class Int:
 @dataclass(frozen=True)
 class Pointer:
     pass
+
+
+@dataclass(frozen=True)
+class Double:
+    """A number of 64 bits with a fraction."""
 
 
 @dataclass(frozen=True)
@@ -54,6 +60,12 @@ class Number:
 
 
 @dataclass(frozen=True)
+class Real:
+    """A number with a fraction, by its bits."""
+    bits: int
+
+
+@dataclass(frozen=True)
 class Nothing:
     """Zero, no pointer, or a value that nothing depends on."""
 
@@ -81,6 +93,15 @@ class Cast:
     """A constant address as a number, or a number as an address."""
     kind: str
     value: tuple
+
+
+@dataclass(frozen=True)
+class Combined:
+    """A number made of two constant ones."""
+    kind: str
+    type: tuple
+    first: tuple
+    second: tuple
 
 
 @dataclass(frozen=True)
@@ -120,9 +141,9 @@ ATTRIBUTES = {'noundef', 'zeroext', 'signext', 'nonnull', 'noalias', 'readonly',
               'captures', 'range', 'dereferenceable', 'initializes', 'align', 'dead_on_return', 'dead_on_unwind', 'returned',
               'writable'}
 LINKAGE = {'internal', 'private', 'dso_local', 'fastcc', 'unnamed_addr', 'local_unnamed_addr', 'constant'}
-BINARY = {'add', 'sub', 'mul', 'and', 'or', 'xor', 'udiv', 'urem', 'shl', 'lshr', 'ashr'}
+BINARY = {'add', 'sub', 'mul', 'and', 'or', 'xor', 'udiv', 'urem', 'shl', 'lshr', 'ashr', 'fadd', 'fsub', 'fmul', 'fdiv'}
 ADDRESS_CASTS = {'ptrtoaddr', 'ptrtoint', 'inttoptr'}
-CASTS = {'zext', 'sext', 'trunc', *ADDRESS_CASTS}
+CASTS = {'zext', 'sext', 'trunc', 'uitofp', 'bitcast', *ADDRESS_CASTS}
 NO_EFFECT = ('llvm.lifetime.', 'llvm.assume', 'llvm.experimental.noalias')
 
 
@@ -224,6 +245,8 @@ class Line:
             return Int(int(word[1:]))
         if word == 'ptr':
             return Pointer()
+        if word == 'double':
+            return Double()
         if word == 'void':
             return Void()
         if word == '{':
@@ -263,8 +286,14 @@ class Line:
             return self.moved()
         if word in ADDRESS_CASTS:
             return self.constant_cast(word)
+        if word in ('add', 'sub', 'xor'):
+            return self.combined(word)
         if re.fullmatch(r'-?\d+', word):
             return Number(int(word))
+        if re.fullmatch(r'0x[0-9A-F]{16}', word):
+            return Real(int(word, 16))
+        if re.fullmatch(r'-?\d\.\d+e[+-]\d+', word):
+            return Real(int.from_bytes(struct.pack('>d', float(word)), 'big'))
         return self.stop(f'unknown value `{word}`')
 
     def moved(self):
@@ -287,6 +316,16 @@ class Line:
         if {type_of, wanted} != {Int(64), Pointer()}:
             self.stop('a cast')
         return Cast(kind, value)
+
+    def combined(self, kind):
+        """`(TYPE FIRST, TYPE SECOND)`."""
+        self.skip(FLAGS)
+        self.expect('(')
+        type_of, first = self.typed()
+        self.expect(',')
+        second = self.typed()[1]
+        self.expect(')')
+        return Combined(kind, type_of, first, second)
 
     def label(self):
         self.expect('label')
@@ -311,7 +350,7 @@ class Line:
             return self.binary()
         if kind in CASTS:
             return self.cast()
-        readers = {'icmp': self.compare, 'freeze': self.one, 'select': self.select, 'load': self.load,
+        readers = {'icmp': self.compare, 'fcmp': self.compare, 'fneg': self.one, 'freeze': self.one, 'select': self.select, 'load': self.load,
                    'store': self.store, 'getelementptr': self.element, 'alloca': self.alloca,
                    'extractvalue': self.extract, 'insertvalue': self.insert, 'phi': self.phi, 'call': self.call,
                    'br': self.branch, 'switch': self.switch, 'ret': self.ret, 'unreachable': self.nothing}
@@ -414,6 +453,8 @@ class Line:
         self.skip(LINKAGE)
         self.attributes()
         type_of = self.type()
+        if self.peek() == '(':  # the types of the parameters, where a function has `...`
+            self.parentheses()
         function = self.value()
         if not isinstance(function, Global):
             self.stop('a call that names no function')
@@ -457,7 +498,7 @@ def type_of_result(instruction):
     kind, type_of = instruction.kind, instruction.type
     if kind in CASTS:
         return instruction.detail
-    if kind == 'icmp':
+    if kind in ('icmp', 'fcmp'):
         return Int(1)
     if kind in ('getelementptr', 'alloca'):
         return Pointer()
@@ -492,10 +533,15 @@ def head(line):
     words.expect('(')
 
     def parameter():
+        if line.startswith('declare') and words.accept('...'):
+            return ANY_NUMBER
         type_of = words.type()
         words.attributes()
         return type_of, name_of(words.next()) if words.peek()[:1] == '%' else ''
     return name, is_static, type_of, words.list_until(')', parameter)
+
+
+ANY_NUMBER = Void(), '...'  # the last parameter of a declared function that takes any number of arguments besides
 
 
 def blocks(lines, parameters):
@@ -510,7 +556,7 @@ def blocks(lines, parameters):
         if line.rstrip().endswith('['):
             for more in lines:
                 line += more
-                if more.strip() == ']':
+                if more.strip().startswith(']'):
                     break
         if line.strip():
             found[-1][1].append(Line(line).instruction())

@@ -67,23 +67,24 @@ find_compiler() {
     stop "there is no C compiler ${CC:-cc} on the path: install one, as by 'apt install gcc', or name it with CC"
 }
 
-# Sets `commands` to the source of the commands for the machine of the compiler, and `faster` to that for x86-64-v2, or to nothing. Where
-# there is commands.c, as in a test, it is that.
+# Sets `commands` to the source of the commands: the assembly for the machine of the compiler, or the C file if there is none; and `faster` to the
+# assembly for x86-64-v2, which release 1.0.0 has, or to nothing.
 find_commands() {
-    faster=
-    [ ! -e "$top/dist/commands.c" ] || { commands=commands.c; return; }
     machine=$($cc -dumpmachine 2>/dev/null) || machine=$(uname -m)-$(uname -s)
     case $machine in
-        x86_64*-linux-gnux32) ;;
-        x86_64*-[lL]inux*)
-            commands='commands-x86_64-linux.s'
-            [ ! -e "$top/dist/commands-x86_64-v2-linux.s" ] || faster='commands-x86_64-v2-linux.s'
-            return
-            ;;
-        aarch64*-[lL]inux*) commands='commands-aarch64-linux.s'; return ;;
+        x86_64*-linux-gnux32) commands= ;;
+        x86_64*-[lL]inux*) commands='commands-x86_64-linux.s' ;;
+        aarch64*-[lL]inux*) commands='commands-aarch64-linux.s' ;;
+        *) commands= ;;
     esac
-    stop "dist/ has commands for x86-64 and AArch64 Linux alone, and this compiler is for $machine:" \
-        "make the library for C with 'make library'"
+    faster='commands-x86_64-v2-linux.s'
+    [ "$commands" = 'commands-x86_64-linux.s' ] && [ -e "$top/dist/$faster" ] || faster=
+    if [ -e "$top/dist/commands.c" ]; then
+        [ -f "$top/dist/$commands" ] || commands=commands.c
+    elif [ -z "$commands" ]; then
+        stop "dist/ has commands for x86-64 and AArch64 Linux only, and this compiler is for $machine:" \
+            "make the library for C with 'make library'"
+    fi
 }
 
 # Runs the compiler, and puts what it makes where it belongs once it is whole: others may be making the same. The
@@ -100,28 +101,66 @@ compile() {
     mv -f "$made.$$" "$made"
 }
 
-# Whether the commands are compiled from dist/ as it is.
+# Whether the commands are compiled from dist/ as it is. Sets `folder` to the one that has them.
 commands_are_made() {
-    [ -e "$top/dist/SOURCE" ] && [ -e "$top/out/dist/ndef-make" ] && [ -e "$top/out/dist/ndef-explain" ] \
-        && is_newer_than "$top/out/dist/ndef" "$top/dist/SOURCE" "$top"/dist/commands* "$top/dist/runtime.c"
+    for folder in "$top/out/dist" "$top/out/dist/quick"; do
+        [ ! -e "$top/dist/SOURCE" ] || [ ! -e "$folder/ndef-make" ] || [ ! -e "$folder/ndef-explain" ] \
+            || ! is_newer_than "$folder/ndef" "$top/dist/SOURCE" "$top"/dist/commands* "$top/dist/runtime.c" || return 0
+    done
+    return 1
 }
 
-# Compiles the commands: out/dist/ndef, which looks at its name, and two links to it. Where there are two sources, it runs
-# the code for its processor. The word stands before the line that says so.
+# Compiles the commands: out/dist/ndef, which is the command of the name by which it is called, and two links to it. If there are two sources, it
+# runs the code for its processor. The first word is what comes before the line that says so; with a second one the C file is compiled in the least
+# time, in out/dist/quick. Sets `folder` to the one that has them.
 make_commands() {
+    folder=$top/out/dist said="${1-}compiling release"
     find_compiler
     check_files
     find_commands
     # shellcheck disable=SC2086
     check_files "$commands" $faster runtime.c
-    say "${1-}compiling release $(of_source version) of dist/, once"
-    set -- "$top/dist/$commands" "$top/dist/runtime.c"
-    [ -z "$faster" ] || set -- "$@" "$top/dist/$faster" "$top/packaging/c/choose_commands.c" -Dndef_commands=chosen_commands
-    # shellcheck disable=SC2086
-    compile "$top/out/dist/ndef" ${CFLAGS:--O2} "$@" ${LDFLAGS:-}
+    said="$said $(of_source version) of dist/, once"
+    if [ -n "${2-}" ] && [ "$commands" = commands.c ]; then
+        folder=$folder/quick
+        compile_quickly
+    else
+        say "$said"
+        set -- "$top/dist/$commands" "$top/dist/runtime.c"
+        [ -z "$faster" ] || set -- "$@" "$top/dist/$faster" "$top/packaging/c/choose_commands.c" -Dndef_commands=chosen_commands
+        # shellcheck disable=SC2086
+        compile "$folder/ndef" ${CFLAGS:--O2} "$@" ${LDFLAGS:-}
+    fi
     for link in ndef-make ndef-explain; do
-        ln -s ndef "$top/out/dist/$link" 2>/dev/null || [ -e "$top/out/dist/$link" ] || exit 3
+        ln -s ndef "$folder/$link" 2>/dev/null || [ -e "$folder/$link" ] || exit 3
     done
+}
+
+# Compiles the C file by tcc, if that is there and CC names no other; else without optimising, in its four parts at once, by clang if that is there,
+# which takes half the time of gcc.
+compile_quickly() {
+    mkdir -p "$folder" || exit 3
+    made=$folder/ndef.$$
+    if [ -z "${CC:-}" ] && tcc "$top/dist/commands.c" "$top/dist/runtime.c" -o "$made" 2>/dev/null; then
+        say "$said"
+        mv -f "$made" "$folder/ndef"
+        return
+    fi
+    [ -n "${CC:-}" ] || ! command -v clang >/dev/null || cc=clang
+    say "$said, which takes some seconds ('make' makes faster ones)"
+    set --
+    for part in 1 2 3 4; do
+        # shellcheck disable=SC2086
+        $cc ${CFLAGS:--O0} -DND_PART=$part -c "$top/dist/commands.c" -o "$made.$part.o" &
+        set -- "$@" "$made.$part.o"
+    done
+    wait
+    # (a part that isn't compiled the linker misses)
+    # shellcheck disable=SC2086
+    (compile "$folder/ndef" ${CFLAGS:--O0} "$@" "$top/dist/runtime.c" ${LDFLAGS:-})
+    status=$?
+    rm -f "$@"
+    [ $status = 0 ] || exit $status
 }
 
 # Compiles the library for C to an archive, for programs and for shared libraries.

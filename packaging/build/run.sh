@@ -6,8 +6,8 @@
 
 . "$top/packaging/build/dist.sh"
 
-# Says on a terminal that the program waits for standard input. The first word is what it reads.
-say_waiting() { [ ! -t 0 ] || say "reading $1 from standard input"; }
+# What the program reads from standard input, where a script says so: the programs of release 1.0.0 don't say on a terminal that they wait.
+reads=
 
 # Runs the program of dist/. The first word says why no proved one runs, or is empty.
 run_from_dist() {
@@ -16,9 +16,10 @@ run_from_dist() {
     if commands_are_made; then
         say "${why}running release $(of_source version) of dist/"
     else
-        make_commands "$why"
+        make_commands "$why" quick
     fi
-    exec "$top/out/dist/$name" "$@"
+    if [ "$reads" ] && [ -t 0 ] && [ "$(of_source version)" = 1.0.0 ]; then say "reading $reads from standard input"; fi
+    exec "$folder/$name" "$@"
 }
 
 # Runs the program with the words of the script but the first, where that is --try or --prove.

@@ -16,3 +16,6 @@ complete -c ndef-explain -l profile -x -a 'strict standard' -d 'How reserved val
 complete -c ndef-explain -l color -x -a 'auto always never' -d 'When output is in colour'
 complete -c ndef-explain -l json -d 'Output is in JSON'
 complete -c ndef-explain -l utf8 -d 'Printable UTF-8 is printed as itself'
+complete -c ndef-explain -l characters -d 'The bytes are printed as characters too'
+complete -c ndef-explain -l raw -d 'The bytes of the input are written as they are'
+complete -c ndef-explain -l record -x -d 'The record whose payload is written as it is'
