@@ -11,6 +11,7 @@ const TEXTS = {
     [HINT.DIGITS]: "These are hexadecimal digits, not the bytes that they spell: decode them first.",
     [HINT.XXD]: "This is a dump by xxd, not the bytes that it spells: decode its digits first.",
     [HINT.HEXDUMP]: "This is a dump by hexdump, not the bytes that it spells: decode its digits first.",
+    [HINT.OD]: "This is a dump by od, not the bytes that it spells: decode its digits first.",
     [HINT.WORDS]: "This dump by od or hexdump may show numbers of two bytes, not bytes: decode a dump of single bytes.",
     [HINT.FLIPPER]: "This is a file of a Flipper, not the bytes: decode the digits of its pages first.",
     [HINT.PROXMARK]: "This is what a Proxmark prints, not the bytes: decode the digits of its blocks first.",

@@ -6,7 +6,7 @@ export const STATUS = {
 // What a hint is about.
 export const HINT = {
     TLV: 1, ATTRIBUTES: 2, FILE: 3, MESSAGE: 4, TERMINATOR: 5, DIGITS: 6, XXD: 7, HEXDUMP: 8, WORDS: 9, FLIPPER: 10, PROXMARK: 11,
-    BASE64: 12, CODE: 13, STANDARD: 14, INTERRUPTED: 15, UNFINISHED: 16,
+    BASE64: 12, CODE: 13, STANDARD: 14, INTERRUPTED: 15, UNFINISHED: 16, OD: 17,
 };
 // What the payload of a record is.
 export const KIND = {
@@ -70,6 +70,14 @@ export const LAYOUT = {
     } },
     layout_field: { size: 12, members: { form: [0, 4], least: [4, 4], most: [8, 4] } },
     laid_out: { size: 16, members: { place: [0, 8], reason: [8, 4], lengthFits: [12, 4] } },
+    handover_parts: { size: 56, members: {
+        carriers: [0, 8], references: [8, 8], detailAt: [16, 8], detailLength: [24, 8], major: [32, 4], minor: [36, 4],
+        collision: [40, 4], hasError: [44, 4], error: [48, 4],
+    } },
+    reference_item: { size: 72, members: {
+        carrier: [0, 8], number: [8, 8], carrierAt: [16, 8], carrierLength: [24, 8], at: [32, 8], length: [40, 8],
+        recordIndex: [48, 8], recordAt: [56, 8], power: [64, 4], hasRecord: [68, 4],
+    } },
 };
 // The calls, and what each takes: an i32 is a number, an i64 a BigInt.
 export const CALLS = {
@@ -105,6 +113,7 @@ export const CALLS = {
     ndef_write_action: "i32 i32 i64 i32", // action, buffer, capacity, count
     ndef_write_size: "i32 i32 i64 i32", // bytes, buffer, capacity, count
     ndef_write_collision: "i32 i32 i64 i32", // number, buffer, capacity, count
+    ndef_number: "i32 i32 i64 i32 i32", // kind, payload, length, out, refusal
     ndef_error: "i32 i64 i32 i32", // payload, length, out, refusal
     ndef_write_error: "i32 i32 i64 i32 i64 i32", // reason, data, length, buffer, capacity, count
     ndef_write_error_number: "i32 i32 i32 i64 i32", // reason, number, buffer, capacity, count
@@ -137,5 +146,7 @@ export const CALLS = {
     ndef_write_request: "i32 i32 i32 i64 i32 i64 i32 i64 i32 i64 i32", // minor, collision, bytes, length, references, references_count, alternatives, alternatives_count, buffer, capacity, count
     ndef_write_select: "i32 i32 i64 i32 i64 i32 i64 i32 i64 i32", // how, bytes, length, references, references_count, alternatives, alternatives_count, buffer, capacity, count
     ndef_items: "i32 i64 i32 i32 i32 i64", // bytes, length, limits, out, items, capacity
+    ndef_items_within: "i32 i32 i64 i32 i32 i32 i64", // kind, payload, length, flags, out, items, capacity
     ndef_check_layout: "i32 i64 i32 i64 i32", // payload, length, fields, fields_count, out
+    ndef_handover_items: "i32 i32 i64 i32 i32 i64 i32 i32 i32 i64", // kind, payload, payload_length, flags, bytes, length, out, refusal, items, capacity
 };

@@ -97,7 +97,7 @@ export class Ndef {
     static readonly HINT: {
         readonly TLV: 1; readonly ATTRIBUTES: 2; readonly FILE: 3; readonly MESSAGE: 4; readonly TERMINATOR: 5; readonly DIGITS: 6;
         readonly XXD: 7; readonly HEXDUMP: 8; readonly WORDS: 9; readonly FLIPPER: 10; readonly PROXMARK: 11; readonly BASE64: 12;
-        readonly CODE: 13; readonly STANDARD: 14; readonly INTERRUPTED: 15; readonly UNFINISHED: 16;
+        readonly CODE: 13; readonly STANDARD: 14; readonly INTERRUPTED: 15; readonly UNFINISHED: 16; readonly OD: 17;
     };
 
     /** Loads the library, of the content of ndef.wasm. */

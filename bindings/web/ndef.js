@@ -53,7 +53,7 @@ export class Ndef {
     static "KIND" = KINDS; // in quotes, since rollup 3 renames a field with the name of an import
 
     // What a hint is about, each with its number: TLV, ATTRIBUTES and FILE, of a tag that has bytes for a message; MESSAGE, TERMINATOR,
-    // DIGITS, XXD, HEXDUMP, WORDS, FLIPPER, PROXMARK, BASE64, CODE, STANDARD, INTERRUPTED, UNFINISHED.
+    // DIGITS, XXD, HEXDUMP, WORDS, FLIPPER, PROXMARK, BASE64, CODE, STANDARD, INTERRUPTED, UNFINISHED, OD.
     static "HINT" = HINTS;
 
     // Loads the library. `code` is the content of ndef.wasm.

@@ -1,16 +1,14 @@
-// The page: reads the input, asks the library what it holds, and shows that. It knows no rule of the format: which bytes are
-// a record's type, where a text lies and why a byte is refused, all of it comes from the calls of ndef.js.
-import { hintText, placesOf } from "./hint.js";
-import { Ndef } from "./ndef.js";
+// The page: reads the input, asks ndef-explain what it holds, and shows that. It knows no rule of the format: which bytes a text spells, which are
+// a record's type, what they say and why one is refused, all of it comes from the program; the library makes new messages.
 import { library, provide, ready } from "./library.js";
 import { decodePrefix } from "./message.js";
 import { encode } from "./record.js";
 import code from "./ndef_wasm.mjs";
-import { byId, capital, element, plural, refusal, toHex, twoDigits } from "./page_elements.js";
-import { bytesOf, bytesOfHex, textOfFile } from "./page_input.js";
-import { Fields, listFields, moveByKeys, onWidth, showBytes } from "./page_bytes.js";
-import { listMessages, paintMessages, showSound } from "./page_records.js";
-import { Slices, together } from "./page_slices.js";
+import { byId, element, plural, toHex, twoDigits } from "./page_elements.js";
+import { bytesOf, explain, load, textOfFile } from "./page_explain.js";
+import { moveByKeys, onWidth, showBytes, showFields } from "./page_bytes.js";
+import { showRecords } from "./page_records.js";
+import { choose, listenToTabs } from "./page_tabs.js";
 import { Composer } from "./page_write.js";
 import { readTag, readsTags, writeTag } from "./page_tag.js";
 
@@ -27,139 +25,72 @@ const SAMPLES = {
     "cut off": "D1 01 08 54 02 65 6E 48 65",
 };
 const LIMITS = ["payload", "records", "chunks"];
-const MOST_CHECKED = 10000; // messages that are checked in one slice
-const MOST_AT_ONCE = 4096; // bytes; where more were read, their rows are made in the next slice
 const MOST_LINKED = 16384; // bytes that a link has
 const MOST_SPELLED = 65536; // bytes of a file that the field for bytes shows; the layout of more takes a second
-const slices = new Slices();
 
 // ---- what is shown
 
-// A message with its place, what the check answers, and its bytes; a refused one has all that follow.
-function messageOf(bytes, answer) {
-    const { at, status, place } = answer;
-    return { at, answer, bytes: bytes.subarray(at, status === Ndef.OK ? at + place : bytes.length) };
+const refusalOf = ({ at, reason, name, sentence }, where = "") => `Refused at byte ${at}${where}, reason ${reason}, ${name}: ${sentence}`;
+
+function showVerdict(bytes, lines, isCut) {
+    const refused = lines.find((line) => line.refused)?.refused, whole = lines.filter(({ records }) => records), verdict = byId("verdict");
+    const count = (member) => whole.reduce((sum, line) => sum + member(line), 0);
+    const good = [[whole.length, "message"], [count(({ records }) => records.length), "record"], [count(({ length }) => length), "byte"]]
+        .map(([number, word]) => plural(number, word)).join(", ");
+    const where = refused?.at === bytes.length ? " (the end of the input)" : "";
+    verdict.className = refused || isCut ? "bad" : "good";
+    if (refused) verdict.textContent = whole.length ? `${good}, then r${refusalOf(refused, where).slice(1)}` : refusalOf(refused, where);
+    else verdict.textContent = isCut ? `${good}; the rest is too much for this page: the command ndef-explain reads it.` : good;
+    const sound = lines.find(({ counted }) => counted);
+    byId("sound").textContent = sound ? `Records that are valid: ${sound.sound} of ${sound.counted}.` : "";
 }
 
-// Work that checks the messages one after another, up to the first refused one, and answers them.
-function* messagesOf(ndef, bytes, options) {
-    const messages = [];
-    for (let at = 0; ;) {
-        const answers = ndef.checkFrom(bytes, at, MOST_CHECKED, options), last = answers[answers.length - 1];
-        answers.forEach((answer) => messages.push(messageOf(bytes, answer)));
-        at = last.at + last.place;
-        if (last.status !== Ndef.OK || at === bytes.length) return messages;
-        clear();
-        sayBusy(true);
-        byId("verdict").className = "";
-        byId("verdict").textContent = `${messages.length} messages are good so far.`;
-        yield Infinity;
-    }
+// A button in place of the command of a hint, or none: it looks at a part of the bytes, at what their text spells, or by the other profile.
+function buttonsOf(bytes, { kind, offset, length, command }) {
+    if (command === undefined) return [];
+    const button = (text, act) => {
+        const made = element("button", { type: "button", text });
+        made.addEventListener("click", () => { act(); byId("hex").focus(); });
+        return [made];
+    };
+    if (kind === "standard") return button("Read by the standard profile", () => { byId("profile").value = "standard"; show(); });
+    if (offset !== undefined) return button(`Look from byte ${offset}`, () => showTheseBytes(bytes.slice(offset, length && offset + length)));
+    const text = textOfFile(bytes);
+    return text === null ? [] : button("Read what they spell", () => { take(text); show(); });
 }
 
-// The words of the page for a hint: a button takes its part of the bytes.
-const WORDS = { part: () => "", base64: "", standard: "choose “as the standard says” for reserved values" };
-
-// A button that looks at the part of the bytes that a hint names, if it names one.
-function buttonsOf(ndef, bytes, found) {
-    const places = placesOf(found);
-    if (places === null) return [];
-    const button = element("button", { type: "button", text: `Look from byte ${found.at}` });
-    button.addEventListener("click", () => { showTheseBytes(ndef, bytes.slice(...places)); byId("hex").focus(); });
-    return [" ", button];
-}
-
-// What may help where the bytes are refused: a sentence, and a button where it names a place.
-function hintOf(ndef, bytes, options) {
-    const found = ndef.findHint(bytes, options);
-    return found === null ? [] : [hintText(found, WORDS), ...buttonsOf(ndef, bytes, found)];
-}
-
-// What the library says of bytes that are refused: what was wanted, and what may help. The place in a hint counts from where
-// the bytes begin, so there is a hint for the first message alone.
-function remarksOf(ndef, bytes, messages, options) {
-    const last = messages[messages.length - 1];
-    if (last.answer.status !== Ndef.REFUSED) return [];
-    const why = ndef.why(bytes.subarray(last.at), options);
-    const wanted = why === null || why === ndef.reasonSentence(last.answer.reason) ? [] : [why];
-    return [wanted, last.at === 0 ? hintOf(ndef, bytes, options) : []].filter((parts) => parts.length > 0);
-}
-
-function showRemarks(ndef, bytes, messages, options) {
-    const remarks = remarksOf(ndef, bytes, messages, options);
-    byId("remarks").hidden = remarks.length === 0;
-    byId("remarks").replaceChildren(...remarks.map((parts) => element("li", {}, ...parts)));
-}
-
-function showVerdict(ndef, messages, bytes) {
-    const last = messages[messages.length - 1], refused = last.answer.status !== Ndef.OK, verdict = byId("verdict");
-    const whole = refused ? messages.slice(0, -1) : messages;
-    const records = whole.reduce((sum, message) => sum + message.answer.records, 0);
-    const length = whole.reduce((sum, message) => sum + message.answer.place, 0);
-    const good = `${plural(whole.length, "message")}, ${plural(records, "record")}, ${plural(length, "byte")}`;
-    verdict.className = refused ? "bad" : "good";
-    if (refused) {
-        const answer = { ...last.answer, place: last.at + last.answer.place };
-        const before = whole.length ? `${good}, then ` : "";
-        const end = answer.place === bytes.length ? " (the end of the input)" : "";
-        verdict.textContent = capital(before + refusal(ndef, answer, end));
-    } else verdict.textContent = capital(good);
-}
-
-// Says whether more of the records will be listed.
-const sayBusy = (isBusy) => byId("record-part").setAttribute("aria-busy", isBusy);
-
-// Empties what shows bytes, fields and records.
-function clear() {
-    sayBusy(false);
-    byId("load").hidden = true;
-    ["bytes", "legend", "field-part", "record-part", "remarks"].forEach((id) => byId(id).replaceChildren());
-    ["detail", "sound"].forEach((id) => { byId(id).textContent = ""; });
-}
-
-// Work that shows the messages of the bytes: the verdict first, then the bytes, the records and the fields side by side.
-function* showMessages(ndef, bytes, options) {
-    const messages = yield* messagesOf(ndef, bytes, options), last = messages[messages.length - 1];
-    const refused = last.answer.status === Ndef.REFUSED, place = refused ? last.at + last.answer.place : Infinity;
-    const fields = new Fields(bytes.length + (place === bytes.length ? 1 : 0));
-    const painting = () => paintMessages(ndef, messages, options, fields, place);
-    clear();
-    showVerdict(ndef, messages, bytes);
-    byId("load").hidden = messages[0].answer.status !== Ndef.OK || (options.flags & Ndef.OPAQUE) !== 0;
-    showRemarks(ndef, bytes, messages, options);
-    sayBusy(true);
-    if (bytes.length > MOST_AT_ONCE) yield Infinity;
-    const works = [showBytes(bytes, fields, place, painting), listMessages(ndef, messages, options), listFields(ndef, bytes, messages, options)];
-    yield* together(refused ? [showSound(ndef, bytes, messages, options), ...works] : works);
-    sayBusy(false);
-}
-
-// ---- input
-
-function optionsOf() {
-    const standard = byId("profile").value === "standard", opaque = byId("payloads").value === "opaque";
-    const options = { flags: (standard ? Ndef.STANDARD : 0) | (opaque ? Ndef.OPAQUE : 0) };
-    LIMITS.forEach((name) => { options[name] = Number(byId(name).value); });
-    return options;
+function showHint(bytes, lines) {
+    const found = lines.find(({ hint }) => hint), { there, length } = found?.hint ?? {};
+    const text = found ? `${found.hints[0]} ${there === undefined ? "" : `${there} of ${length} bytes are there. `}` : "";
+    byId("hint").hidden = !found;
+    byId("hint").replaceChildren(text, ...(found ? buttonsOf(bytes, found.hint) : []));
 }
 
 // Shows that there is no answer, and why.
 function showFault(text) {
-    slices.stop();
-    clear();
-    byId("form").textContent = "";
+    ["bytes", "legend", "field-part", "record-part", "hint"].forEach((id) => byId(id).replaceChildren());
+    ["detail", "sound", "form"].forEach((id) => { byId(id).textContent = ""; });
+    ["load", "hint", "shown"].forEach((id) => { byId(id).hidden = true; });
     byId("verdict").className = "bad";
     byId("verdict").textContent = text;
 }
 
-// Work that shows the messages, or why it fails.
-function* showAnswer(ndef, bytes, options) {
-    try {
-        yield* showMessages(ndef, bytes, options);
-    } catch (error) {
-        showFault(error instanceof RangeError ? "A limit is out of range." : `The page failed: ${error.message}`);
-    }
+// The verdict and what the records say come first, then the bytes.
+function showMessages(bytes) {
+    const { lines, isCut, wrong } = explain(bytes, optionsOf());
+    if (wrong || bytes.length === 0) return showFault(wrong ?? "There are no bytes.");
+    byId("shown").hidden = false;
+    showVerdict(bytes, lines, isCut);
+    showHint(bytes, lines);
+    byId("load").hidden = lines[0]?.records === undefined;
+    showRecords(lines);
+    showBytes(bytes, lines);
+    showFields(lines);
 }
+
+// ---- input
+
+const optionsOf = () => Object.fromEntries([...LIMITS, "profile"].map((id) => [id, byId(id).value]));
 
 // The bytes of a file that the field doesn't show, or null. What is entered there takes their place.
 let kept = null;
@@ -169,105 +100,108 @@ const given = () => kept ?? bytesOf(byId("hex").value);
 
 // Takes the text of the field for bytes, or bytes that it doesn't show and what is said of them there.
 function take(text, bytes = null, said = "") {
+    choose("tab-read");
     kept = bytes;
     byId("hex").value = text;
     byId("hex").placeholder = said;
 }
 
-function show(ndef) {
-    const { bytes, form, wrong } = given(), options = optionsOf();
-    if (wrong) return showFault(wrong);
-    const words = [bytes.length > MOST_LINKED ? "" : Array.from(bytes, twoDigits).join("")];
+function linkTo(bytes) {
+    const digits = bytes.length > MOST_LINKED ? "" : Array.from(bytes, twoDigits).join("");
     byId("link").hidden = bytes.length > MOST_LINKED;
-    if (options.flags & Ndef.STANDARD) words.push("standard");
-    if (options.flags & Ndef.OPAQUE) words.push("opaque");
-    byId("link").setAttribute("href", "#" + words.join("&"));
-    byId("form").textContent = form === "hexadecimal" ? "" : `Read as ${form}.`;
-    slices.begin(showAnswer(ndef, bytes, options));
+    byId("link").setAttribute("href", `#${digits}${byId("profile").value === "standard" ? "&standard" : ""}`);
+}
+
+function show() {
+    const { bytes, form, wrong } = given();
+    if (wrong) return showFault(wrong);
+    linkTo(bytes);
+    byId("form").textContent = form ? `Read as ${form}.` : "";
+    try {
+        showMessages(bytes);
+    } catch (error) {
+        showFault(`The page failed: ${error.message}`);
+    }
 }
 
 // Shows these bytes, which the field shows too where they aren't too many.
-function showTheseBytes(ndef, bytes, named = `${bytes.length} bytes`) {
+function showTheseBytes(bytes, named = `${bytes.length} bytes`) {
     if (bytes.length <= MOST_SPELLED) take(toHex(bytes));
-    else take("", { bytes, form: "hexadecimal" }, named);
-    show(ndef);
+    else take("", { bytes }, named);
+    show();
 }
 
 // Takes the bytes and the options after # in the address.
 function takeAddress() {
     const [digits, ...words] = location.hash.slice(1).split("&");
     if (!digits) return false;
-    const bytes = bytesOfHex(digits);
-    take(typeof bytes === "string" ? digits : toHex(bytes));
+    const { bytes } = bytesOf(digits);
+    take(bytes ? toHex(bytes) : digits);
     byId("profile").value = words.includes("standard") ? "standard" : "strict";
-    byId("payloads").value = words.includes("opaque") ? "opaque" : "typed";
     return true;
 }
 
-async function takeFile(ndef, file) {
+async function takeFile(file) {
     const bytes = new Uint8Array(await file.arrayBuffer()), text = textOfFile(bytes), named = `${bytes.length} bytes of the file ${file.name}`;
-    if (text === null) return showTheseBytes(ndef, bytes, named);
+    if (text === null) return showTheseBytes(bytes, named);
     if (bytes.length <= MOST_SPELLED) take(text);
     else take("", bytesOf(text), named);
-    show(ndef);
+    show();
 }
 
-function listenToFiles(ndef) {
-    byId("file").addEventListener("change", ({ target }) => { if (target.files[0]) takeFile(ndef, target.files[0]); });
+function listenToFiles() {
+    byId("file").addEventListener("change", ({ target }) => { if (target.files[0]) takeFile(target.files[0]); });
     document.addEventListener("dragover", (event) => { event.preventDefault(); document.body.classList.add("drop"); });
     document.addEventListener("dragleave", () => document.body.classList.remove("drop"));
     document.addEventListener("drop", (event) => {
         event.preventDefault();
         document.body.classList.remove("drop");
-        if (event.dataTransfer.files[0]) takeFile(ndef, event.dataTransfer.files[0]);
+        if (event.dataTransfer.files[0]) takeFile(event.dataTransfer.files[0]);
     });
 }
 
-function listen(ndef) {
+function listen() {
     byId("hex").addEventListener("input", () => take(byId("hex").value));
-    ["hex", "profile", "payloads", ...LIMITS].forEach((id) => byId(id).addEventListener("input", () => show(ndef)));
+    ["hex", "profile", ...LIMITS].forEach((id) => byId(id).addEventListener("input", show));
     Object.entries(SAMPLES).forEach(([name, hex]) => {
         const button = element("button", { type: "button", text: name });
-        button.addEventListener("click", () => { take(hex); show(ndef); });
+        button.addEventListener("click", () => { take(hex); show(); });
         byId("samples").append(button);
     });
-    listenToFiles(ndef);
+    listenToFiles();
     byId("bytes").addEventListener("keydown", moveByKeys);
-    onWidth(() => show(ndef));
-    window.addEventListener("hashchange", () => { if (takeAddress()) show(ndef); });
+    onWidth(show);
+    window.addEventListener("hashchange", () => { if (takeAddress()) show(); });
 }
 
-function listenToTags(ndef, composer) {
-    const take = (message) => {
-        showTheseBytes(ndef, encode(message, { unchecked: true }));
+function listenToTags(composer) {
+    const takeMessage = (message) => {
+        showTheseBytes(encode(message, { unchecked: true }));
         if (composer.isEmpty) composer.take(message.records);
     };
     ["scan", "write-tag"].forEach((id) => { byId(id).hidden = !readsTags(); });
-    byId("scan").addEventListener("click", () => readTag(take));
+    byId("scan").addEventListener("click", () => readTag(takeMessage));
 }
 
-// What leads to the composer: a link, and a button that takes the records of the first message.
-function listenToJumps(composer) {
-    const go = () => { byId("write").scrollIntoView(); byId("write-kind").focus(); };
-    byId("jump").addEventListener("click", (event) => { event.preventDefault(); go(); });
+// The button that takes the records of the first message into the composer.
+function listenToEdit(composer) {
     byId("load").addEventListener("click", () => {
-        const { flags, ...limits } = optionsOf(), options = { ...limits, standard: (flags & Ndef.STANDARD) !== 0 };
+        const { profile, ...limits } = optionsOf(), numbers = Object.entries(limits).map(([name, value]) => [name, Number(value)]);
+        const options = { ...Object.fromEntries(numbers), standard: profile === "standard" };
         composer.take(decodePrefix(given().bytes, options).message.records, options);
-        go();
+        choose("tab-write");
+        byId("write-kind").focus();
     });
 }
 
 provide(code);
-await ready();
-const ndef = library(), usual = ndef.defaultLimits();
+await Promise.all([ready(), load()]);
+const usual = library().defaultLimits();
 LIMITS.forEach((name) => { byId(name).value = usual[name]; });
-byId("size").textContent = code.length;
-listen(ndef);
-const composer = new Composer({
-    look: (bytes) => { showTheseBytes(ndef, bytes); byId("hex").focus(); },
-    write: writeTag,
-});
-listenToTags(ndef, composer);
-listenToJumps(composer);
+listenToTabs();
+listen();
+const composer = new Composer({ look: (bytes) => { showTheseBytes(bytes); byId("hex").focus(); }, write: writeTag, read: bytesOf });
+listenToTags(composer);
+listenToEdit(composer);
 if (!takeAddress()) take(SAMPLES["two records"]);
-show(ndef);
+show();

@@ -1,14 +1,16 @@
-// The bytes of the input as a grid: the place of each row, its bytes in the colours of their fields, and its characters.
-import { Ndef } from "./ndef.js";
-import { ascii, byId, element, plural, toHex, twoDigits } from "./page_elements.js";
+// The bytes of the input as a grid: the place of each row, its bytes in the colours of their fields, and its characters; and the fields as a table.
+import { ascii, byId, element, plural, shortened, twoDigits } from "./page_elements.js";
 
-const FIRST_SHOWN = 256; // bytes that the page shows before it looks at others
 const MOST_SHOWN = 2048; // bytes that the page shows
-const MOST_FIELDS = 500; // fields in the list
+const AROUND = 64; // bytes before and after a refused one that isn't among them
+const MOST_FIELDS = 500; // fields in the table
+const MOST_IN_FIELD = 8; // bytes of a field in the table
+const MOST_CHARACTERS = 400; // of a meaning in the table
+const LONG = 40; // characters of a meaning that are too many for what is said of a byte
 
-export const FIELD_KINDS = {
+const KINDS = {
     head: "head: flags and lengths", type: "type", id: "id", payload: "payload", language: "language code",
-    value: "text, URI or data", chunk: "further chunks", rest: "not looked at", refused: "refused",
+    value: "text, URI or data", rest: "not looked at", refused: "refused",
 };
 
 // The colour of each field, by its name; the others have that of a payload.
@@ -23,64 +25,43 @@ const narrow = window.matchMedia("(max-width: 40rem)");
 const rowLength = () => (narrow.matches ? 8 : 16);
 export const onWidth = (call) => narrow.addEventListener("change", call);
 
-// What is known of the bytes in the order of their places. Only those in the range that is shown are painted.
-export class Fields {
-    #known = new Map();
-
-    constructor(count) {
-        this.count = count;
-        this.range = [0, 0];
-    }
-
-    at(place) { return this.#known.get(place) ?? { kind: "rest" }; }
-
-    // Whether some of the bytes from one place up to another are in the range.
-    touches(from, to) { return from < this.range[1] && to > this.range[0]; }
-
-    // Adds `more` to what is known of each byte from one place up to another.
-    paint(from, to, more) {
-        const [first, end] = this.range;
-        for (let at = Math.max(from, first); at < Math.min(to, end); at++) this.#known.set(at, { ...this.#known.get(at), ...more });
-    }
-
-    // Marks the refused byte; nothing is known of those after it.
-    refuse(place) {
-        for (const at of [...this.#known.keys()]) if (at > place) this.#known.delete(at);
-        this.paint(place, place + 1, { kind: "refused" });
-    }
+// The parts of the input that are shown: its first bytes, and those around the refused one.
+function shownRanges(count, place) {
+    const ranges = [[0, Math.min(count, MOST_SHOWN)]];
+    if (place < count && place >= MOST_SHOWN) ranges.push([Math.max(MOST_SHOWN, place - AROUND), Math.min(count, place + AROUND)]);
+    return ranges;
 }
 
-export function paintRecord(fields, start, record, name) {
-    const payload = start + record.payloadAt, paint = (from, to, kind) => fields.paint(from, to, { kind, record: name, name: undefined });
-    paint(start + record.at, start + record.typeAt, "head");
-    paint(start + record.typeAt, start + record.idAt, "type");
-    paint(start + record.idAt, payload, "id");
-    paint(payload, payload + record.partLength, "payload");
-    paint(payload + record.partLength, start + record.end, "chunk");
-    fields.paint(start + record.at, start + record.at + 1, { begins: true });
+// What is known of each shown byte: a field, or that it is refused.
+function knownIn(lines, ranges) {
+    const known = new Map();
+    for (const line of lines.filter(({ fields }) => fields)) {
+        for (const field of line.fields)
+            for (const [from, to] of ranges)
+                for (let at = Math.max(field.at, from); at < Math.min(field.at + field.length, to); at++) known.set(at, field);
+        if (line.refused) known.set(line.refused.at, null);
+    }
+    return known;
 }
 
-// Gives the shown bytes of a message the names and colours of their fields, as far as payloads are validated.
-export function paintFields(ndef, fields, { at, bytes }, options) {
-    const [from, to] = fields.range.map((place) => Math.max(place - at, 0)), how = { ...options, flags: options.flags & ~Ndef.OPAQUE };
-    for (const field of ndef.fieldsWithin(bytes, from, to, how).fields)
-        fields.paint(at + field.at, at + field.at + field.length, { kind: COLOURS[field.name] ?? "payload", name: field.name });
+function kindOf(field) {
+    if (field === undefined) return "rest";
+    return field === null ? "refused" : COLOURS[field.name] ?? "payload";
 }
 
-function detailOf(bytes, fields, at) {
+function detailOf(bytes, field, at) {
     if (at >= bytes.length) return `Byte ${at}: the end of the input`;
-    const shown = ascii(bytes[at]), field = fields.at(at);
-    const record = field.record ? `, record ${field.record}` : "", name = field.kind === "refused" ? null : field.name;
-    return `Byte ${at}: ${twoDigits(bytes[at])}${shown === null ? "" : ` "${shown}"`}${record}, ${name ?? FIELD_KINDS[field.kind]}`;
+    const shown = ascii(bytes[at]), said = `Byte ${at}: ${twoDigits(bytes[at])}${shown === null ? "" : ` "${shown}"`}`;
+    if (!field) return `${said}, ${KINDS[kindOf(field)]}`;
+    const meaning = field.meaning?.length <= LONG ? ` ${field.meaning}` : "";
+    return `${said}, record ${field.record}, ${field.name}${meaning}`;
 }
 
-function byteSpan(bytes, fields, at, detail) {
-    const field = fields.at(at);
-    const kind = field.kind + (field.begins ? " begin" : "");
-    const text = detailOf(bytes, fields, at);
+function byteSpan(bytes, field, at) {
+    const text = detailOf(bytes, field, at), kind = kindOf(field) + (field?.begins ? " begin" : "");
     const span = element("span", { kind, role: "gridcell", "aria-label": text, tabindex: "-1", "data-at": at });
     span.textContent = at < bytes.length ? twoDigits(bytes[at]) : "end";
-    const show = () => { detail.textContent = text; };
+    const show = () => { byId("detail").textContent = text; };
     span.addEventListener("mouseenter", show);
     span.addEventListener("focus", show);
     span.addEventListener("click", () => span.focus());
@@ -88,96 +69,85 @@ function byteSpan(bytes, fields, at, detail) {
 }
 
 // A row: where it begins, its bytes and their characters. The characters are said by the labels of the bytes.
-function byteRow(bytes, fields, from, to, detail) {
-    const spans = Array.from({ length: to - from }, (_, index) => byteSpan(bytes, fields, from + index, detail));
+function byteRow(bytes, known, from, to) {
+    const spans = Array.from({ length: to - from }, (_, index) => byteSpan(bytes, known.get(from + index), from + index));
     const text = Array.from(bytes.subarray(from, to), (byte) => ascii(byte) ?? "\u00b7").join("");
     const place = element("span", { kind: "place", role: "rowheader", text: from, "aria-label": `From byte ${from}` });
     const characters = element("span", { kind: "text", "aria-hidden": "true", text });
     return element("div", { role: "row", kind: "bytes" }, place, ...spans, characters);
 }
 
-// The first bytes, and where the refused one isn't among them, those around it.
-function shownRanges(count, place) {
-    const ranges = [[0, Math.min(count, FIRST_SHOWN)]];
-    if (count > FIRST_SHOWN) ranges.push([FIRST_SHOWN, Math.min(count, MOST_SHOWN)]);
-    if (place < count && place >= MOST_SHOWN) ranges.push([Math.max(MOST_SHOWN, place - 64), Math.min(count, place + 64)]);
-    return ranges;
-}
-
-function gap(count) {
-    return element("p", { kind: "gap", text: `${plural(count, "byte")} not shown` });
-}
+const gap = (count) => element("p", { kind: "gap", text: `${plural(count, "byte")} not shown` });
 
 // The tab key reaches one byte: the refused one, or else the first.
-function reachByKey(box, bytes, fields) {
-    if (box.contains(document.activeElement)) return;
-    box.querySelectorAll("[tabindex='0']").forEach((span) => { span.tabIndex = -1; });
+function reachByKey(box) {
     const first = box.querySelector(".refused") ?? box.querySelector("[data-at]");
     if (first) first.tabIndex = 0;
-    byId("detail").textContent = first ? detailOf(bytes, fields, Number(first.dataset.at)) : "";
+    byId("detail").textContent = first?.getAttribute("aria-label") ?? "";
 }
 
-function showLegend(kinds) {
-    byId("legend").replaceChildren(...Object.keys(FIELD_KINDS).filter((kind) => kinds.has(kind))
-        .map((kind) => element("li", {}, element("i", { kind }), FIELD_KINDS[kind])));
+function showLegend(box) {
+    byId("legend").replaceChildren(...Object.entries(KINDS).filter(([kind]) => box.querySelector(`[data-at].${kind}`))
+        .map(([kind, said]) => element("li", {}, element("i", { kind }), said)));
 }
 
-// Work that shows the ranges one after another, each as soon as `painting`, a work too, has painted it.
-export function* showBytes(bytes, fields, place, painting) {
-    const box = byId("bytes"), detail = byId("detail"), { count } = fields, length = rowLength(), kinds = new Set();
-    box.style.setProperty("--row", length);
+// Shows the bytes. The refused one may be the end of the input.
+export function showBytes(bytes, lines) {
+    const box = byId("bytes"), length = rowLength(), place = lines.find(({ refused }) => refused)?.refused.at ?? Infinity;
+    const count = bytes.length + (place === bytes.length ? 1 : 0), ranges = shownRanges(count, place), known = knownIn(lines, ranges);
     let end = 0;
-    for (const range of shownRanges(count, place)) {
-        const [from, to] = fields.range = range;
-        yield* painting();
+    box.style.setProperty("--row", length);
+    box.replaceChildren();
+    for (const [from, to] of ranges) {
         if (from > end) box.append(gap(from - end));
-        for (let at = from; at < to; at += length) {
-            box.append(byteRow(bytes, fields, at, Math.min(to, at + length), detail));
-            yield length + 3;
-        }
-        for (let at = from; at < to; at++) kinds.add(fields.at(at).kind);
-        reachByKey(box, bytes, fields);
-        showLegend(kinds);
+        for (let at = from; at < to; at += length) box.append(byteRow(bytes, known, at, Math.min(to, at + length)));
         end = to;
     }
     if (end < count) box.append(gap(count - end));
+    reachByKey(box);
+    showLegend(box);
 }
 
-function fieldRow(bytes, start, { at, length, depth, name }) {
-    const octets = bytes.subarray(start + at, Math.min(start + at + length, start + at + 16)), more = length > 16 ? " …" : "";
-    const text = Array.from(octets, (byte) => ascii(byte) ?? "\u00b7").join("");
-    const cells = [String(start + at), name, toHex(octets) + more, text + more].map((content, index) =>
-        element("td", {}, index < 2 ? content : element("code", { text: content })));
-    return element("tr", { kind: depth ? "nested" : "" }, ...cells);
+const COLUMNS = ["Byte", "Bytes", "Field", "Meaning"];
+
+// The rows of a field: what it says, and what is strange in it.
+function fieldRows({ at, length, depth, name, octets, meaning = "", remark, begins }) {
+    const bytes = octets.slice(0, 2 * MOST_IN_FIELD).toUpperCase().match(/../g).join(" ") + (length > MOST_IN_FIELD ? " …" : "");
+    const cells = [String(at), element("code", { text: bytes }), name, shortened(meaning, MOST_CHARACTERS)].map((content) => element("td", {}, content));
+    const row = element("tr", { kind: `${depth ? "nested" : ""}${begins ? " begin" : ""}`.trim() }, ...cells);
+    return remark === undefined ? [row] : [row, element("tr", { kind: "remark" }, element("td", { colspan: `${COLUMNS.length}`, text: remark }))];
 }
 
-const FIELD_COLUMNS = ["Byte", "Field", "Bytes", "Characters"];
-
-function remarkRow(text) {
-    return element("tr", { kind: "remark" }, element("td", { colspan: String(FIELD_COLUMNS.length), text }));
+// The row of the refused byte, whose octet isn't there at the end of the input.
+function refusedRow({ at, octet = "", field = "", sentence }) {
+    const cells = [String(at), element("code", { text: octet.toUpperCase() }), field, `refused: ${sentence}`];
+    return element("tr", { kind: "why" }, ...cells.map((content) => element("td", {}, content)));
 }
 
-// What is strange in a field of an accepted message, or null.
-function remarkOnField(ndef, { answer, bytes }, { at, length, name }) {
-    return answer.status === Ndef.OK ? ndef.fieldWarning(name, bytes.subarray(at, at + length)) : null;
-}
+const titleRow = (text) => element("tr", { kind: "title" }, element("th", { colspan: `${COLUMNS.length}`, text }));
 
-// Work that lists the fields of the messages one after another, as a table, up to the refused byte. A remark on a field stands below it.
-export function* listFields(ndef, bytes, messages, options) {
-    const body = element("tbody"), how = { ...options, flags: options.flags & ~Ndef.OPAQUE };
-    const head = element("tr", {}, ...FIELD_COLUMNS.map((name) => element("th", { scope: "col", text: name })));
-    const caption = element("caption", { text: "The fields, in their order" });
-    byId("field-part").append(element("table", { kind: "fields" }, caption, element("thead", {}, head), body));
-    let left = MOST_FIELDS;
-    for (const message of messages) {
-        for (const field of ndef.firstFields(message.bytes, left, how).fields) {
-            const remark = remarkOnField(ndef, message, field);
-            body.append(fieldRow(bytes, message.at, field), ...(remark === null ? [] : [remarkRow(remark)]));
-            left--;
-            yield remark === null ? 9 : 11;
-        }
-        if (left === 0) return;
+// The rows of a line: its fields, those of payloads in chunks, whose places count from their own first byte, and the refused byte.
+function* rowsOf(line) {
+    for (const field of line.fields) yield* fieldRows(field);
+    if (line.refused) yield refusedRow(line.refused);
+    for (const { record, length, fields } of line.payloads ?? []) {
+        yield titleRow(`Payload of record ${record}, ${plural(length, "byte")}: its chunks joined, and counted from its first byte`);
+        for (const field of fields) yield* fieldRows(field);
     }
+}
+
+// Shows the fields as a table, up to a number of them.
+export function showFields(lines) {
+    const head = element("tr", {}, ...COLUMNS.map((name) => element("th", { scope: "col", text: name }))), body = element("tbody");
+    let left = MOST_FIELDS;
+    for (const line of lines.filter(({ fields }) => fields)) {
+        for (const row of rowsOf(line)) {
+            if (left-- > 0) body.append(row);
+        }
+        if (left <= 0) break;
+    }
+    const table = element("table", { kind: "fields", "aria-label": "Fields" }, element("thead", {}, head), body);
+    byId("field-part").replaceChildren(table, ...(left < 0 ? [element("p", { text: `Only the first ${MOST_FIELDS} rows are shown.` })] : []));
 }
 
 // Arrow keys move from byte to byte, by rows of as many bytes as the page shows in one.

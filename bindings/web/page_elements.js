@@ -3,11 +3,12 @@ export const byId = (id) => document.getElementById(id);
 const DIGITS = Array.from({ length: 256 }, (_, byte) => byte.toString(16).padStart(2, "0").toUpperCase());
 export const twoDigits = (byte) => DIGITS[byte];
 export const toHex = (bytes) => Array.from(bytes, twoDigits).join(" ");
+export const bytesOfHex = (digits) => Uint8Array.from({ length: digits.length / 2 }, (_, at) => parseInt(digits.slice(2 * at, 2 * at + 2), 16));
 export const ascii = (byte) => (byte >= 0x20 && byte < 0x7f ? String.fromCharCode(byte) : null);
-export const quoted = (bytes) => Array.from(bytes, (byte) => ascii(byte) ?? "\\x" + twoDigits(byte).toLowerCase()).join("");
-// Text with escapes for characters that are not shown, or that change how others are: controls and marks of direction.
-export const visible = (text) => text.replace(/[\u0000-\u0008\u000b-\u001f\u007f-\u009f\u061c\u200b\u200e\u200f\u2028-\u202e\u2060-\u2069\ufeff]/g,
+// Text with escapes for characters that are not shown, or that change how others are: controls and marks of direction. A line ends as it is.
+export const visible = (text) => text.replace(/\r\n?/g, "\n").replace(/[\u0000-\u0008\u000b-\u001f\u007f-\u009f\u061c\u200b\u200e\u200f\u2028-\u202e\u2060-\u2069\ufeff]/g,
     (one) => `\\u{${one.charCodeAt(0).toString(16)}}`);
+export const shortened = (text, most) => visible(text.slice(0, most)) + (text.length > most ? " …" : "");
 export const plural = (count, word) => `${count} ${word}${count === 1 ? "" : "s"}`;
 export const capital = (text) => text[0].toUpperCase() + text.slice(1);
 
@@ -21,9 +22,4 @@ export function element(name, options = {}, ...children) {
     });
     made.append(...children);
     return made;
-}
-
-// A refusal: where, the reason by its number and name, and what it means.
-export function refusal(ndef, { place, reason }, where) {
-    return `refused at byte ${place}${where}, reason ${reason}, ${ndef.reasonName(reason)}: ${ndef.reasonSentence(reason)}`;
 }

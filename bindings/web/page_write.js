@@ -2,9 +2,10 @@
 // which tags it fits.
 import { NDEFMessage, NDEFRecord, encode, utf16Of } from "./record.js";
 import { handoverRequest, handoverSelect, smartPoster } from "./builders.js";
-import { ACTION_NAMES, POWER_NAMES } from "./page_meaning.js";
-import { bytesOf } from "./page_input.js";
 import { byId, capital, element, plural, toHex, visible } from "./page_elements.js";
+
+const POWER_NAMES = ["inactive", "active", "activating", "unknown"];
+const ACTION_NAMES = ["do it", "save it", "open it"];
 
 // The bytes of a tag for messages: its user memory, less the 5 bytes that are in use on an NTAG213 as delivered (its lock control),
 // or the last 8 and 16 bytes, which the capability containers of the others leave out.
@@ -30,9 +31,10 @@ function numberOf(text, name) {
 const optionalNumberOf = (text, name) => (text.trim() === "" ? null : numberOf(text, name));
 const linesOf = (text) => text.split("\n").map((one) => one.trim()).filter((one) => one !== "");
 
-function payloadOf({ payload, layout }) {
+// The payload that is given; `read` has the bytes that a text spells.
+function payloadOf({ payload, layout }, read) {
     if (layout === "text") return payload;
-    const { bytes, wrong } = bytesOf(payload);
+    const { bytes, wrong } = read(payload);
     if (wrong) throw new TypeError(wrong);
     return bytes;
 }
@@ -105,19 +107,20 @@ const KINDS = {
     },
     "Media type": {
         fields: { mediaType: line("Media type", "text/plain"), ...PAYLOAD, id: ID },
-        make: (given) => new NDEFRecord({ recordType: "mime", mediaType: given.mediaType, id: given.id, data: payloadOf(given) }),
+        make: (given, read) => new NDEFRecord({ recordType: "mime", mediaType: given.mediaType, id: given.id, data: payloadOf(given, read) }),
     },
     "External type": {
         fields: { type: line("Type", "example.com:type"), ...PAYLOAD, id: ID },
-        make: (given) => new NDEFRecord({ tnf: 4, type: given.type, id: given.id, payload: payloadOf(given) }),
+        make: (given, read) => new NDEFRecord({ tnf: 4, type: given.type, id: given.id, payload: payloadOf(given, read) }),
     },
     "Absolute URI": { fields: { type: URI, id: ID }, make: (given) => new NDEFRecord({ tnf: 3, ...given }) },
     "Unknown": {
-        fields: { ...PAYLOAD, id: ID }, make: (given) => new NDEFRecord({ recordType: "unknown", id: given.id, data: payloadOf(given) }),
+        fields: { ...PAYLOAD, id: ID },
+        make: (given, read) => new NDEFRecord({ recordType: "unknown", id: given.id, data: payloadOf(given, read) }),
     },
     "Another well-known type": {
         fields: { type: line("Type"), ...PAYLOAD, id: ID },
-        make: (given) => new NDEFRecord({ tnf: 1, type: given.type, id: given.id, payload: payloadOf(given) }),
+        make: (given, read) => new NDEFRecord({ tnf: 1, type: given.type, id: given.id, payload: payloadOf(given, read) }),
     },
     "Empty": { fields: {}, make: () => new NDEFRecord({ recordType: "empty" }) },
 };
@@ -172,12 +175,15 @@ function save(bytes) {
     setTimeout(() => URL.revokeObjectURL(link.href), 1000);
 }
 
-// The composer: the records so far, and what is done with them. `look` shows bytes in the page, `write` writes a message to a tag.
+// The composer: the records so far, and what is done with them. `look` shows bytes in the page, `write` writes a message to a tag,
+// `read` has the bytes that a text spells.
 export class Composer {
     #records = [];
     #options = {}; // with which the records were read
+    #read;
 
-    constructor({ look, write }) {
+    constructor({ look, write, read }) {
+        this.#read = read;
         byId("write-kind").append(...Object.keys(KINDS).map((text) => element("option", { text })));
         byId("write-kind").addEventListener("input", () => this.#showForm());
         byId("write-form").addEventListener("submit", (event) => { event.preventDefault(); this.#add(); });
@@ -213,7 +219,7 @@ export class Composer {
         byId("write-fault").textContent = "";
     }
 
-    #add() { this.#try(() => [...this.#records, kindOf().make(filled())], this.#options); }
+    #add() { this.#try(() => [...this.#records, kindOf().make(filled(), this.#read)], this.#options); }
 
     // Changes the list to what `make` answers, or says why no message has these records.
     #try(make, options) {

@@ -7,7 +7,7 @@ import { join } from "node:path";
 // (in a chroot nobody may write /dev/shm)
 const FLAGS = ["--headless", "--no-sandbox", "--disable-gpu", "--hide-scrollbars", "--remote-debugging-pipe", "--no-first-run", "--disable-dev-shm-usage"];
 // The milliseconds after which the browser, or a page that hangs, is given up.
-const LIMIT = 60000;
+const LIMIT = 240000;
 // The keys that tests press, with their codes.
 const KEYS = { Tab: 9, Enter: 13, " ": 32, ArrowLeft: 37, ArrowUp: 38, ArrowRight: 39, ArrowDown: 40, End: 35, Home: 36, PageDown: 34, PageUp: 33 };
 

@@ -49,30 +49,55 @@ const add = async (kind, fields) => {
 
 // ---- what is pasted, and files
 
+// Memory of tags, laid out as the specifications of the Forum have it: a Type 2 tag that is blank, one with a text before a row of zeros, and one whose
+// text is cut short; Type 1 tags, static and dynamic; a Type 2 tag with control TLVs; a file of Type 4; Type 5; and a message alone. Each with the bytes
+// of its message, or the end of what is said instead.
+const TEXT = "d101085402656e48656c6c6f", ZEROS = "00".repeat(64), PAGES = "04a1b2c3d4e5f60718480000e1101200", BLOCK = "04a1b2c3d4e5f600";
+const TAGS = [
+    [`${PAGES}0300fe${ZEROS}`, "This tag is empty: it has no bytes for a message. "], [`${PAGES}030c${TEXT}fe${ZEROS}`, TEXT],
+    [`${PAGES}030c${TEXT.slice(0, 16)}`, "8 of 12 bytes are there. "], [`${BLOCK}e1100e00030c${TEXT}fe${ZEROS}`, TEXT],
+    [`${BLOCK}e1103f000103f230330203f00203030c${TEXT}fe${ZEROS}`, TEXT], [`${PAGES}0103a010440203b01002030c${TEXT}fe${ZEROS}`, TEXT],
+    [`000c${TEXT}`, TEXT], [`e1401001030c${TEXT}fe00`, TEXT], [TEXT, TEXT],
+];
+
+// What ten tools print of a file, each with what the page says of the form.
+function printedOf(file, bytes) {
+    const made = (program, ...words) => execFileSync(program, [...words, file], { encoding: "utf8" }), digits = bytes.toString("hex");
+    const pairs = digits.match(/../g), xxd = "Read as output of xxd.", hexdump = "Read as output of hexdump.", od = "Read as output of od.";
+    return [
+        [made("xxd"), xxd], [made("xxd", "-g1", "-u"), xxd], [made("xxd", "-a"), xxd], [made("xxd").replaceAll("\n", "\r\n"), xxd], [made("hexdump", "-C"), hexdump],
+        [made("hexdump", "-vC"), hexdump], [made("od", "-tx1"), od], [made("od", "-An", "-tx1", "-v"), ""], [made("xxd", "-p"), ""], [made("xxd", "-i"), ""],
+        [pairs.join(":"), ""], [pairs.map((pair) => `0x${pair}`).join(", "), ""], [`{ ${pairs.map((pair) => `0x${pair}`).join(", ")} };`, ""],
+        [`[${[...bytes].join(", ")}]`, ""], [made("base64"), "Read as base64."], [bytes.toString("base64url"), "Read as base64."],
+    ];
+}
+
+const shownBytes = () => browser.evaluate('[...document.querySelectorAll("#bytes [data-at]")].map((one) => one.textContent).filter((one) => one !== "end").join("")');
+
+// Each dump gives the bytes, and the button of the hint the message.
 async function dumps() {
-    const bytes = Buffer.from("9101085402656e48656c6c6f11010c55016578616d706c652e636f6d5a090301696d6167652f706e67310078ff", "hex");
-    const hex = bytes.toString("hex").toUpperCase().match(/../g).join(" "), file = join(folder, "tag.bin");
-    writeFileSync(file, bytes);
-    const made = (program, ...words) => execFileSync(program, [...words, file], { encoding: "utf8" });
-    const layouts = {
-        "output of xxd": [made("xxd"), made("xxd", "-g1"), made("xxd", "-u", "-c8"), made("xxd").replaceAll("\n", "\r\n")],
-        "output of hexdump": [made("hexdump", "-C"), made("hexdump", "-C").split("\n").slice(0, -2).join("\n")],
-        "base64": [made("base64"), made("base64", "-w", "20"), bytes.toString("base64url") + "=".repeat(-bytes.toString("base64url").length & 3)],
-        "hexadecimal": [made("xxd", "-p"), hex, `{ ${[...bytes].map((byte) => `0x${byte.toString(16).padStart(2, "0")}`).join(", ")} };`.replace(";", ""),
-            [...bytes].map((byte) => `\\x${byte.toString(16).padStart(2, "0")}`).join("")],
-    };
-    for (const [form, pasted] of Object.entries(layouts)) {
-        for (const one of pasted) {
-            await give("hex", one);
-            const shown = await browser.evaluate('[...document.querySelectorAll("#bytes [data-at]")].map((one) => one.textContent).join(" ")');
-            look(`bytes pasted as ${JSON.stringify(one)}`, [shown, await text("form")], [hex, form === "hexadecimal" ? "" : `Read as ${form}.`]);
+    const file = join(folder, "tag.bin");
+    for (const [digits, message] of TAGS) {
+        const bytes = Buffer.from(digits, "hex");
+        writeFileSync(file, bytes);
+        for (const [printed, form] of printedOf(file, bytes)) {
+            await give("hex", printed);
+            look(`bytes pasted as ${JSON.stringify(printed)}`, [await shownBytes(), await text("form")], [digits.toUpperCase(), form]);
+            if (message === digits) continue;
+            if (message !== TEXT) {
+                look("what is said instead", [(await text("hint")).endsWith(message), await browser.evaluate('document.querySelectorAll("#hint button").length')], [true, 0]);
+                continue;
+            }
+            await browser.evaluate('document.querySelector("#hint button").click()');
+            look("its message", [await shownBytes(), await browser.evaluate('document.querySelector("#record-part .value").textContent')], [message.toUpperCase(), "Hello"]);
         }
     }
-    for (const wrong of ["0QEI", "D1 0G D1 0G", "QUJD*EFG"]) {
+    for (const [wrong, said] of [["0QEI", "Bad digit at 1."], ["D1 0G D1 0G", "Bad digit at 3."], ["QUJD*EFG", "Bad digit at 0."], ["D1010754026", "Odd number of digits."],
+        [execFileSync("hexdump", [file], { encoding: "utf8" }), "Words, not bytes: use hexdump -C or od -tx1."]]) {
         await give("hex", wrong);
-        look(`${wrong} isn't taken`, [/^".*" isn't a hexadecimal digit\.$/.test(await text("verdict")), await text("form"), await text("field-part")], [true, "", ""]);
+        look(`${wrong} isn't taken`, [await text("verdict"), await text("form"), await text("field-part")], [said, "", ""]);
     }
-    return { file, hex };
+    return { file, hex: TEXT.toUpperCase().match(/../g).join(" ") };
 }
 
 async function files({ file, hex }) {
@@ -117,7 +142,7 @@ const FAULTS = [
     ["Handover request", { collision: "65536", carriers: "" },
         "A handover request can't be written: its random number is above 65535"],
     ["Media type", { mediaType: "", payload: "" }, "A record can't be written: a record of its type name format needs a type"],
-    ["Unknown", { payload: "0g", layout: "bytes (hexadecimal or base64)" }, "\"g\" isn't a hexadecimal digit."],
+    ["Unknown", { payload: "0g", layout: "bytes (hexadecimal or base64)" }, "Bad digit at 1."],
     ["Text", { data: "a", lang: "en", id: "x".repeat(256) }, "A record can't be written: its id has more than 255 bytes"],
 ];
 
@@ -141,6 +166,7 @@ async function writes() {
 // Type 2 tags: 03, the length in one byte or in three, and the message; NXP says what an NTAG213, 215 and 216 are delivered with.
 // A URI that is copied from elsewhere has its scheme.
 async function pasted() {
+    await click("tab-write");
     await click("write-clear");
     for (const [kind, field] of [["URI", "data"], ["Smart poster", "uri"], ["Absolute URI", "type"]]) {
         await give("write-kind", kind);
@@ -168,6 +194,7 @@ async function fits() {
 
 async function lists() {
     const listed = () => browser.evaluate('[...document.querySelectorAll("#write-list li span")].map((one) => one.textContent)');
+    await click("tab-write");
     await click("write-clear");
     look("nothing yet", [await text("write-size"), await browser.evaluate('["write-look", "write-clear", "write-tag"].every((id) => document.getElementById(id).disabled)')],
         ["No records yet.", true]);
@@ -233,8 +260,6 @@ async function loads() {
     look("records are taken", [await listed(), await focused(), await value("write-hex")], [["url: a", "empty: 0 bytes"], "write-kind", "91 01 02 55 00 61 50 00 00"]);
     await give("hex", "D1");
     look("what is refused isn't taken", await browser.evaluate('document.getElementById("load").hidden'), true);
-    await click("jump");
-    look("the link to the composer", [await focused(), await value("hex")], ["write-kind", "D1"]);
     await browser.evaluate('navigator.clipboard.writeText = async (text) => { window.copied = text; }');
     await click("write-copy");
     await browser.until('document.getElementById("written").textContent === "The bytes are copied."');
@@ -251,23 +276,26 @@ async function loads() {
 
 // ---- keys, what is read aloud, colours and widths
 
-const ORDER = ["jump", "hex", "file", "scan", "link", "text", "URI", "smart poster", "two records", "chunks", "handover", "not UTF-8", "reserved", "cut off",
-    "Profile and limits", "load", "Byte 0: 91, record 1, header", "Fields", "write-kind", "field-data", "field-lang", "field-utf16", "field-id", "Add this record",
-    "write-hex"];
+const ORDER = ["tab-read", "hex", "file", "scan", "link", "text", "URI", "smart poster", "two records", "chunks", "handover", "not UTF-8", "reserved", "cut off",
+    "Profile and limits", "load", "Byte 0: 91, record 1, header MB SR TNF 1 well-known"];
+const ORDER_OF_WRITING = ["tab-write", "write-kind", "field-data", "field-lang", "field-utf16", "field-id", "Add this record", "write-hex"];
 
 async function keys() {
     await browser.open(PAGE, READY);
-    const order = [];
-    for (let left = ORDER.length; left > 0; left--) { await press("Tab"); order.push(await focused()); }
-    look("the order of the tab key", order, ORDER);
+    const orderOf = async (count) => { const order = []; while (order.length < count) { await press("Tab"); order.push(await focused()); } return order; };
+    look("the order of the tab key", await orderOf(ORDER.length), ORDER);
     await browser.evaluate('document.querySelector("#bytes [data-at]").focus()');
     await press("ArrowRight", "ArrowDown", "End", "Home", "PageDown", "ArrowRight");
-    look("arrow keys in the bytes", await text("detail"), "Byte 1: 01, record 1, TYPE_LENGTH");
+    look("arrow keys in the bytes", await text("detail"), "Byte 1: 01, record 1, TYPE_LENGTH 1");
+    await focus("tab-read");
+    await press("ArrowRight");
+    look("the order where it writes", ["tab-write", ...await orderOf(ORDER_OF_WRITING.length - 1)], ORDER_OF_WRITING);
     await focus("field-data");
     await browser.type("Hi");
     await focus("field-id");
     await press("Enter");
     look("the enter key adds a record", await value("write-hex"), "D1 01 05 54 02 65 6E 48 69");
+    await click("tab-read");
     await browser.evaluate('document.querySelector("summary").focus()');
     await press("Enter");
     look("the enter key opens the options", await browser.evaluate('document.querySelector("details").open'), true);
@@ -278,13 +306,13 @@ async function read() {
     await browser.evaluate('document.querySelectorAll("details").forEach((one) => { one.open = true; })');
     const { nodes } = await browser.send("Accessibility.getFullAXTree"), shown = nodes.filter(({ ignored }) => !ignored);
     const of = (role) => shown.filter((node) => node.role.value === role).map((node) => node.name?.value ?? "");
-    const roles = ["button", "textbox", "combobox", "checkbox", "spinbutton", "link", "gridcell", "rowheader", "grid", "table", "list", "region", "alert", "radio"];
+    const roles = ["button", "textbox", "combobox", "checkbox", "spinbutton", "link", "gridcell", "rowheader", "grid", "table", "list", "region", "alert", "tab", "tabpanel"];
     look("controls without a name", roles.filter((role) => of(role).includes("") && role !== "alert" && role !== "list"), []);
-    look("the headings", of("heading"), ["NDEF", "Records", "Write a message"]);
-    look("the parts", of("region"), ["Input", "Answer", "Tag", "Bytes", "Records", "Write a message"]);
-    look("the bytes", of("gridcell"), ["Byte 0: D7, record 1, refused", "Byte 1: 00, not looked at", "Byte 2: 00, not looked at"]);
+    look("the headings", of("heading"), ["NDEF", "Bytes", "Fields"]);
+    look("the parts", [of("tab"), of("tabpanel"), of("region")], [["Read", "Write"], ["Read"], ["Input", "Answer", "Tag", "Records", "Bytes", "Fields"]]);
+    look("the bytes", of("gridcell"), ["Byte 0: D7, refused", "Byte 1: 00, not looked at", "Byte 2: 00, not looked at"]);
     look("what is said where it changes", shown.filter((node) => node.properties?.some(({ name, value: { value } }) => name === "live" && value !== "off"))
-        .map((node) => node.role.value).sort(), ["alert", "paragraph", "region", "status", "status", "status"]);
+        .map((node) => node.role.value).sort(), ["paragraph", "region", "status"]);
     look("the language and the title", await browser.evaluate('[document.documentElement.lang, document.title]'), ["en", "NDEF: read and write messages of NFC tags"]);
 }
 
@@ -322,6 +350,10 @@ async function looks() {
         await browser.evaluate('document.querySelectorAll("details").forEach((one) => { one.open = true; })');
         await add("Text", { data: "A text of some length, which a narrow page has to break: Donaudampfschifffahrtsgesellschaft", lang: "de" });
         await add("Handover select", { carriers: "active b" });
+        await click("tab-write");
+        look(`${name} where it writes`, [await browser.evaluate("document.documentElement.scrollWidth"), await browser.evaluate(CONTRAST)], [width, []]);
+        await browser.picture(join(pictures, `${name}-write.png`));
+        await click("tab-read");
         look(`${name} is as wide as its window`, await browser.evaluate("document.documentElement.scrollWidth"), width);
         look(`the text of ${name} is seen`, await browser.evaluate(CONTRAST), []);
         look(`rows of ${name}`, await browser.evaluate('document.querySelector("#bytes [role=row]").querySelectorAll("[data-at]").length'), width < 640 ? 8 : 16);
