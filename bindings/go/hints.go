@@ -15,10 +15,10 @@ const (
 	HintFile       HintKind = C.NDEF_HINT_FILE       // a message comes after its length, as in a file of a Type 4 Tag
 	HintMessage    HintKind = C.NDEF_HINT_MESSAGE    // a message begins after other bytes
 	HintTerminator HintKind = C.NDEF_HINT_TERMINATOR // the terminator of a tag's TLV blocks is in place of a message
-	HintDigits     HintKind = C.NDEF_HINT_DIGITS     // the bytes are hexadecimal digits
+	HintDigits     HintKind = C.NDEF_HINT_DIGITS     // the bytes are digits
 	HintXxd        HintKind = C.NDEF_HINT_XXD        // the bytes are a dump by xxd
 	HintHexdump    HintKind = C.NDEF_HINT_HEXDUMP    // the bytes are a dump by hexdump -C
-	HintWords      HintKind = C.NDEF_HINT_WORDS      // the bytes are a dump by od or hexdump, which may show numbers of two bytes
+	HintWords      HintKind = C.NDEF_HINT_WORDS      // the bytes are a dump by od or hexdump of numbers of more than one byte
 	HintFlipper    HintKind = C.NDEF_HINT_FLIPPER    // the bytes are an NFC file of a Flipper
 	HintProxmark   HintKind = C.NDEF_HINT_PROXMARK   // the bytes are what the client of a Proxmark prints
 	HintBase64     HintKind = C.NDEF_HINT_BASE64     // the bytes may be base64
@@ -28,6 +28,7 @@ const (
 	// (the library of release 1.0.0 has no names for these)
 	HintInterrupted HintKind = 15 // reserved areas of a tag may lie before the end of an NDEF message TLV
 	HintUnfinished  HintKind = 16 // a Type 3 Tag is being written: its message is not whole yet
+	HintOd          HintKind = 17 // the bytes are a dump by od -tx1
 )
 
 // A FoundHint says to a program what may help where bytes are refused.
@@ -109,5 +110,6 @@ var hintTexts = map[HintKind]string{
 	HintCode:       "68 (hexadecimal) is the letter h: was the identifier code left out?",
 	HintStandard:   "The standard profile reads this: give `Options{Standard: true}`.",
 
+	HintOd:         "This is a dump by od, not the bytes that it spells: decode its digits first.",
 	HintUnfinished: "This Type 3 Tag is being written: its attribute block says that the message is not whole yet.",
 }

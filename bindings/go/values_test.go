@@ -233,7 +233,7 @@ func TestGrowthOfSentences(t *testing.T) {
 
 // Each kind of hint has a sentence, whatever the library knows of it.
 func TestTextsOfHints(t *testing.T) {
-	for kind := HintTLV; kind <= HintUnfinished; kind++ {
+	for kind := HintTLV; kind <= HintOd; kind++ {
 		if text := (&FoundHint{Kind: kind}).String(); !strings.HasSuffix(text, ".") && !strings.HasSuffix(text, "?") {
 			t.Errorf("the kind %d has the sentence %q", kind, text)
 		}

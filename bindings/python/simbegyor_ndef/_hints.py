@@ -15,10 +15,10 @@ class HintKind(enum.IntEnum):
     FILE: a message comes after its length, as in a file of a Type 4 Tag.
     MESSAGE: a message begins after other octets.
     TERMINATOR: the terminator of a tag's TLV blocks is in place of a message.
-    DIGITS: the octets are hexadecimal digits.
+    DIGITS: the octets are digits.
     XXD: they are a dump by xxd.
     HEXDUMP: they are a dump by `hexdump -C`.
-    WORDS: they are a dump by od or hexdump, which may show numbers of two bytes.
+    WORDS: they are a dump by od or hexdump of numbers of more than one byte.
     FLIPPER: they are an NFC file of a Flipper.
     PROXMARK: they are what the client of a Proxmark prints.
     BASE64: they may be base64.
@@ -26,6 +26,7 @@ class HintKind(enum.IntEnum):
     STANDARD: a reader of the standard profile accepts the octets.
     INTERRUPTED: reserved areas of a tag may lie before the end of an NDEF message TLV.
     UNFINISHED: a Type 3 Tag is being written: its message is not whole yet.
+    OD: the octets are a dump by `od -tx1`.
     """
 
     TLV = interface.HINT_TLV
@@ -44,6 +45,7 @@ class HintKind(enum.IntEnum):
     STANDARD = interface.HINT_STANDARD
     INTERRUPTED = interface.HINT_INTERRUPTED
     UNFINISHED = interface.HINT_UNFINISHED
+    OD = interface.HINT_OD
 
 
 # What surrounds the octets that a tag has for a message.
@@ -61,6 +63,7 @@ _TEXTS: Dict[int, str] = {
     HintKind.DIGITS: 'These are hexadecimal digits, not the bytes that they spell: decode them first, as `bytes.fromhex` does.',
     HintKind.XXD: 'This is a dump by xxd, not the bytes that it spells: decode its digits first.',
     HintKind.HEXDUMP: 'This is a dump by hexdump, not the bytes that it spells: decode its digits first.',
+    HintKind.OD: 'This is a dump by od, not the bytes that it spells: decode its digits first.',
     HintKind.WORDS: 'This dump by od or hexdump may show numbers of two bytes, not bytes: decode a dump of single bytes.',
     HintKind.FLIPPER: 'This is a file of a Flipper, not the bytes: decode the digits of its pages first.',
     HintKind.PROXMARK: 'This is what a Proxmark prints, not the bytes: decode the digits of its blocks first.',

@@ -80,6 +80,7 @@ HINT_CODE = 13
 HINT_STANDARD = 14
 HINT_INTERRUPTED = 15
 HINT_UNFINISHED = 16
+HINT_OD = 17
 
 # What the payload of a record is.
 KIND_OTHER = 0
@@ -298,6 +299,18 @@ class LaidOut(ctypes.Structure):
     _fields_ = [('place', u64), ('reason', u32), ('length_fits', u32)]
 
 
+class HandoverParts(ctypes.Structure):
+    """A handover request or a select."""
+    _fields_ = [('carriers', u64), ('references', u64), ('detail_at', u64), ('detail_length', u64), ('major', u32),
+                ('minor', u32), ('collision', u32), ('has_error', u32), ('error', u32)]
+
+
+class ReferenceItem(ctypes.Structure):
+    """A reference of a handover: of its alternative carriers each has its carrier data reference first, and then its auxiliary ones."""
+    _fields_ = [('carrier', u64), ('number', u64), ('carrier_at', u64), ('carrier_length', u64), ('at', u64),
+                ('length', u64), ('record_index', u64), ('record_at', u64), ('power', u32), ('has_record', u32)]
+
+
 # The calls that return nothing; the others return a number.
 WITHOUT_RESULT = ('default_limits',)
 
@@ -442,6 +455,10 @@ class Calls(Protocol):
     def write_collision(self, number: u32, buffer: Octets, capacity: Size, count: Reference) -> int:
         """Writes the payload of a Collision Resolution record, two octets, to the buffer."""
 
+    def number(self, kind: u32, payload: Octets, length: Size, out: Reference, refusal: Reference) -> int:
+        """Gives the number that the payload of an Action, a Size or a Collision Resolution record is; `kind` is the
+        number of the kind, as `ndef_kind` gives it."""
+
     def error(self, payload: Octets, length: Size, out: Reference, refusal: Reference) -> int:
         """Gives the reason of the error that the payload of an Error record describes, where its data lie, and the
         number that they give."""
@@ -578,6 +595,18 @@ class Calls(Protocol):
               capacity: Size) -> int:
         """Checks the message with which the bytes begin, and gives all its records."""
 
+    def items_within(self, kind: u32, payload: Octets, length: Size, flags: u32, out: Reference, items: Reference,
+                     capacity: Size) -> int:
+        """Checks the payload of a Smart Poster, a Handover Request or a Handover Select record, and gives all records
+        of the message within it, as `ndef_items` gives those of a message: by offsets in the payload, and with the
+        kinds that `ndef_kind` gives within a payload of that kind."""
+
     def check_layout(self, payload: Octets, length: Size, fields: Reference, fields_count: Size, out: Reference) -> int:
         """Checks a payload by a layout, for a record type of the program's own: the fields of the layout follow one
         another up to the end of the payload."""
+
+    def handover_items(self, kind: u32, payload: Octets, payload_length: Size, flags: u32, bytes: Octets, length: Size,
+                       out: Reference, refusal: Reference, items: Reference, capacity: Size) -> int:
+        """Reads the payload of a Handover Request or a Handover Select record, and gives all references of its
+        alternative carriers: of each its carrier data reference, and then its auxiliary ones, by offsets in the
+        payload."""

@@ -38,10 +38,10 @@ kinds! {
     3 File "A message comes after its length, as in a file of a Type 4 Tag.",
     4 Message "A message begins after other bytes.",
     5 Terminator "The terminator of a tag's TLV blocks is in place of a message.",
-    6 Digits "The bytes are hexadecimal digits.",
+    6 Digits "The bytes are digits.",
     7 Xxd "The bytes are a dump by `xxd`.",
     8 Hexdump "The bytes are a dump by `hexdump -C`.",
-    9 Words "The bytes are a dump by `od` or `hexdump`, which may show numbers of two bytes.",
+    9 Words "The bytes are a dump by `od` or `hexdump` of numbers of more than one byte.",
     10 Flipper "The bytes are an NFC file of a Flipper.",
     11 Proxmark "The bytes are what the client of a Proxmark prints.",
     12 Base64 "The bytes may be base64.",
@@ -49,6 +49,7 @@ kinds! {
     14 Standard "A reader of the standard profile accepts the bytes.",
     15 Interrupted "Reserved areas of a tag may lie before the end of an NDEF message TLV.",
     16 Unfinished "A Type 3 Tag is being written: its message is not whole yet.",
+    17 Od "The bytes are a dump by `od -tx1`.",
 }
 
 impl HintKind {
@@ -74,6 +75,7 @@ impl HintKind {
             DumpText::Digits => Self::Digits,
             DumpText::Xxd => Self::Xxd,
             DumpText::Hexdump => Self::Hexdump,
+            DumpText::Od | DumpText::Suppressed => Self::Od,
             DumpText::Words => Self::Words,
             DumpText::Flipper => Self::Flipper,
             DumpText::Proxmark => Self::Proxmark,
@@ -123,6 +125,7 @@ impl fmt::Display for FoundHint {
             HintKind::Digits => "These are hexadecimal digits, not the bytes that they spell: decode them first.",
             HintKind::Xxd => "This is a dump by xxd, not the bytes that it spells: decode its digits first.",
             HintKind::Hexdump => "This is a dump by hexdump, not the bytes that it spells: decode its digits first.",
+            HintKind::Od => "This is a dump by od, not the bytes that it spells: decode its digits first.",
             HintKind::Words => {
                 "This dump by od or hexdump may show numbers of two bytes, not bytes: decode a dump of single bytes."
             }

@@ -42,6 +42,11 @@ pub(crate) fn counted_at(payload: &[u8], at: usize) -> NdefPart {
     NdefPart { at: at + 1, length: usize::from(payload[at]) }
 }
 
+/// The number of references of an alternative carrier.
+pub(crate) fn references_in(payload: &[u8]) -> usize {
+    1 + usize::from(payload[2 + usize::from(payload[1])])
+}
+
 /// The auxiliary reference with an index of at most their count.
 fn auxiliary_at(payload: &[u8], index: usize) -> NdefPart {
     let mut at = 3 + usize::from(payload[1]);

@@ -13,7 +13,11 @@
 //! - `crates/ndef_c/src/refusal_message.rt`, `crates/ndef_c/specs/RefusalMessages.antt`: the reason of a refusal, in sentences. `crates/ndef_c/src/hints.rt`,
 //!   `crates/ndef_c/specs/Hints.antt`: hints, in sentences and by numbers. `crates/ndef_c/src/warnings.rt`, `crates/ndef_c/specs/Warnings.antt`: warnings about
 //!   a message that is accepted.
-//! - `crates/ndef_c/src/items.rt`, `crates/ndef_c/specs/Items.antt`: a message and all its records, in one call.
+//! - `crates/ndef_c/src/items.rt`, `crates/ndef_c/specs/Items.antt`: a message and all its records, in one call; the message within a payload,
+//!   likewise.
+//! - `crates/ndef_c/src/handover_items.rt`, `crates/ndef_c/specs/HandoverItems.antt`: a handover and all its references, in one call.
+//!   `crates/ndef_c/src/reference_items.rt`: the references in its payload. `crates/ndef_c/src/reference_records.rt`, `crates/ndef_c/specs/ReferenceOrder.antt`: the
+//!   records to which they refer.
 //! - `crates/ndef_c/src/layout.rt`, `crates/ndef_c/specs/Layouts.antt`: payloads of a layout that a program gives.
 //! - `crates/ndef_c/src/finding.rt`, `crates/ndef_c/specs/Finding.antt`: the first record with a type or an id.
 //! - `crates/ndef_c/src/writer.rt`, `crates/ndef_c/specs/Writers.antt`: a record written in steps.
@@ -27,7 +31,7 @@
 //!   `crates/ndef_c/specs/HandoverParts.antt`: its alternative carriers.
 //! - `crates/ndef_c/src/normalizing.rt`, `crates/ndef_c/specs/Normalizing.antt`: a message written again, each record in one piece.
 //! - `uri.rs`, `crates/ndef_c/src/uri_parts.rt`, `text.rs`, `carrier.rs`, `alternative.rs`, `crates/ndef_c/src/request.rt`, `crates/ndef_c/src/select.rt`, `crates/ndef_c/src/poster.rt`,
-//!   `crates/ndef_c/src/error.rt`: payloads of each kind. `numbers.rs` and `alternative_writing.rs`, `error_writing.rs`,
+//!   `crates/ndef_c/src/error.rt`, `numbers.rs`: payloads of each kind. `alternative_writing.rs`, `error_writing.rs`,
 //!   `handover_writing.rs`: those of records within posters and handovers, written.
 //! - `crates/ndef_c/src/titles.rt`, `crates/ndef_c/specs/Titles.antt`: the places of the titles and of the media type of a poster.
 //! - `crates/ndef_c/src/icons.rt`, `crates/ndef_c/specs/Icons.antt`: the places of the icons of a poster.
@@ -76,6 +80,7 @@ pub use handover_writing::REQUEST;
 pub use handover_writing::SELECT;
 pub use limits::ndef_default_limits;
 pub use limits::NdefLimits;
+pub use numbers::ndef_number;
 pub use numbers::ndef_write_action;
 pub use numbers::ndef_write_collision;
 pub use numbers::ndef_write_size;

@@ -101,6 +101,8 @@ public final class FoundHint {
                 return "This is a dump by xxd, not the bytes that it spells: decode its digits first.";
             case HEXDUMP:
                 return "This is a dump by hexdump, not the bytes that it spells: decode its digits first.";
+            case OD:
+                return "This is a dump by od, not the bytes that it spells: decode its digits first.";
             case WORDS:
                 return "This dump by od or hexdump may show numbers of two bytes, not bytes: decode a dump of single bytes.";
             case FLIPPER:

@@ -12,13 +12,13 @@ public enum HintKind {
     MESSAGE(4),
     /** The terminator of a tag's TLV blocks is in place of a message. */
     TERMINATOR(5),
-    /** The bytes are hexadecimal digits. */
+    /** The bytes are digits. */
     DIGITS(6),
     /** The bytes are a dump by xxd. */
     XXD(7),
     /** The bytes are a dump by hexdump -C. */
     HEXDUMP(8),
-    /** The bytes are a dump by od or hexdump, which may show numbers of two bytes. */
+    /** The bytes are a dump by od or hexdump of numbers of more than one byte. */
     WORDS(9),
     /** The bytes are an NFC file of a Flipper. */
     FLIPPER(10),
@@ -33,7 +33,9 @@ public enum HintKind {
     /** Reserved areas of a tag may lie before the end of an NDEF message TLV. */
     INTERRUPTED(15),
     /** A Type 3 Tag is being written: its message is not whole yet. */
-    UNFINISHED(16);
+    UNFINISHED(16),
+    /** The bytes are a dump by od -tx1. */
+    OD(17);
 
     private static final HintKind[] ALL = values();
 
