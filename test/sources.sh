@@ -16,6 +16,16 @@ library_in_c() {
     (flock 9 && { grep -qs "$("$top/packaging/tree_hash")" "$library"/ndef_small.c || "$top/ports/amalgamation" "$library" >&2; }) 9>>"$top/out/amalgamation.lock"
 }
 
+# copy_without_crates FOLDER DIST: copies the repository there, without crates/ and with a folder of generated sources as its dist/. If these are made of the
+# crates as they are here, they are in the copy too.
+copy_without_crates() {
+    mkdir -p "$1/crates" "$1/dist" && if git -C "$top" rev-parse --git-dir >/dev/null 2>&1; then
+        (cd "$top" && git ls-files -z | grep -zv '^crates/\|^dist/' | xargs -0 cp -P --parents -t "$1")
+    else
+        tar -C "$top" --exclude=./out --exclude=./crates --exclude=./dist -c . | tar -C "$1" -x
+    fi && cp "$2"/* "$1/dist" && sed -i "s/^crates $("$top/packaging/tree_hash")$/crates $("$1/packaging/tree_hash")/" "$1/dist/SOURCE"
+}
+
 # over_dist NAME COMMAND..: a test that runs what stands here over dist/. Where it fails and the crates have changed since that release, make check leaves
 # it out: it may ask for what the release hasn't. The gate has what is made of the crates instead. The status is 1 where it didn't pass.
 over_dist() {

@@ -217,22 +217,63 @@ static void find_hint(const uint8_t *bytes, ndef_size length, const ndef_limits 
     mix_status(ndef_find_hint(bytes, length, limits, &found)), mix(found.hint), mix(found.at), mix(found.length);
 }
 
+static ndef_item items[ELEMENTS];
+
+static void mark_items(void) {
+    const ndef_item mark = { 7, 7, 7, 7, 7, 7, 7, 7, 7, 7, 7, 7, 7, 7, 7, 7 };
+    for (int k = 0; k < ELEMENTS; k++) items[k] = mark;
+}
+
+static void mix_items(void) {
+    for (const ndef_item *it = items; it < items + ELEMENTS; it++) {
+        mix(it->at), mix(it->end), mix(it->tnf), mix(it->kind), mix(it->type_at), mix(it->type_length), mix(it->id_length);
+        mix(it->payload_at), mix(it->payload_length), mix(it->chunks), mix(it->form), mix(it->number);
+        mix(it->language_at), mix(it->language_length), mix(it->text_at), mix(it->text_length);
+    }
+}
+
 /* All records of a message at once. */
 static void list_records(const uint8_t *bytes, ndef_size length, const ndef_limits *limits) {
-    static ndef_item items[ELEMENTS];
-    const ndef_item mark = { 7, 7, 7, 7, 7, 7, 7, 7, 7, 7, 7, 7, 7, 7, 7, 7 };
     for (int i = 0; i < 3; i++) {
         ndef_checked out = { 77, 77, 77 };
-        for (int k = 0; k < ELEMENTS; k++) items[k] = mark;
+        mark_items();
         mix_status(ndef_items(bytes, length, limits, &out, items, sizes[i])), mix_checked(&out);
-        for (int k = 0; k < ELEMENTS; k++) {
-            const ndef_item *it = items + k;
-            mix(it->at), mix(it->end), mix(it->tnf), mix(it->kind), mix(it->type_at), mix(it->type_length), mix(it->id_length);
-            mix(it->payload_at), mix(it->payload_length), mix(it->chunks), mix(it->form), mix(it->number);
-            mix(it->language_at), mix(it->language_length), mix(it->text_at), mix(it->text_length);
+        mix_items();
+    }
+}
+
+#if NDEF_VERSION_MINOR >= 1
+/* Those of the message within a payload, and the number that a payload is. */
+static void list_within(const uint8_t *bytes, ndef_size length, uint32_t flags) {
+    for (uint32_t kind = 0; kind < 13; kind++) {
+        ndef_checked why = { 77, 77, 77 };
+        uint32_t number = 77;
+        mark_items();
+        mix_status(ndef_items_within(kind, bytes, length, flags, &why, items, sizes[length % 3])), mix_checked(&why);
+        mix_items();
+        mix_status(ndef_number(kind, bytes, length % 6 < length ? length % 6 : length, &number, &why)), mix(number), mix_checked(&why);
+    }
+}
+#endif
+
+#if NDEF_VERSION_MINOR >= 1
+/* All references of a handover, in the message that its payload holds, and in none. */
+static void list_references(const uint8_t *bytes, ndef_size length, uint32_t flags) {
+    static ndef_reference_item references[ELEMENTS];
+    for (uint32_t kind = NDEF_KIND_REQUEST; kind <= NDEF_KIND_SELECT; kind++) {
+        ndef_handover_parts out = { 77, 77, 77, 77, 77, 77, 77, 77, 77 };
+        ndef_checked why = { 77, 77, 77 };
+        for (int i = 0; i < ELEMENTS; i++) references[i] = (ndef_reference_item) { 77, 77, 77, 77, 77, 77, 77, 77, 77, 77 };
+        mix_status(ndef_handover_items(kind, bytes, length, flags, bytes + (length > 0), length % 2 && length > 0 ? length - 1 : 0, &out, &why, references, sizes[length % 3]));
+        mix(out.carriers), mix(out.references), mix(out.detail_at), mix(out.detail_length), mix(out.major), mix(out.minor), mix(out.collision);
+        mix(out.has_error), mix(out.error), mix_checked(&why);
+        for (const ndef_reference_item *it = references; it < references + ELEMENTS; it++) {
+            mix(it->carrier), mix(it->number), mix(it->carrier_at), mix(it->carrier_length), mix(it->at), mix(it->length);
+            mix(it->record_index), mix(it->record_at), mix(it->power), mix(it->has_record);
         }
     }
 }
+#endif
 
 /* The bytes as a payload, and as the forms and bounds of fields. */
 static void lay_out(const uint8_t *bytes, ndef_size length) {
@@ -288,6 +329,10 @@ static void look_at_payload(const uint8_t *bytes, ndef_size length, ndef_size si
         ndef_checked why = { 77, 77, 77 };
         ndef_uri_parts uri = { 7, 7, 7 };
         read_with_flags(bytes, length, flags, size);
+#if NDEF_VERSION_MINOR >= 1
+        list_within(bytes, length, flags);
+        list_references(bytes, length, flags);
+#endif
         mix_status(ndef_split_uri(bytes, length, flags, &uri, &why));
         mix(uri.rest_at), mix(uri.rest_length), mix(uri.code), mix_checked(&why);
     }

@@ -195,6 +195,29 @@ AT(ndef_laid_out, place, uint64_t, 0);
 AT(ndef_laid_out, reason, uint32_t, 8);
 AT(ndef_laid_out, length_fits, uint32_t, 12);
 
+SIZE(ndef_handover_parts, 56, 56);
+AT(ndef_handover_parts, carriers, ndef_size, 0);
+AT(ndef_handover_parts, references, ndef_size, 8);
+AT(ndef_handover_parts, detail_at, ndef_size, 16);
+AT(ndef_handover_parts, detail_length, ndef_size, 24);
+AT(ndef_handover_parts, major, uint32_t, 32);
+AT(ndef_handover_parts, minor, uint32_t, 36);
+AT(ndef_handover_parts, collision, uint32_t, 40);
+AT(ndef_handover_parts, has_error, uint32_t, 44);
+AT(ndef_handover_parts, error, uint32_t, 48);
+
+SIZE(ndef_reference_item, 72, 72);
+AT(ndef_reference_item, carrier, ndef_size, 0);
+AT(ndef_reference_item, number, ndef_size, 8);
+AT(ndef_reference_item, carrier_at, ndef_size, 16);
+AT(ndef_reference_item, carrier_length, ndef_size, 24);
+AT(ndef_reference_item, at, ndef_size, 32);
+AT(ndef_reference_item, length, ndef_size, 40);
+AT(ndef_reference_item, record_index, ndef_size, 48);
+AT(ndef_reference_item, record_at, ndef_size, 56);
+AT(ndef_reference_item, power, uint32_t, 64);
+AT(ndef_reference_item, has_record, uint32_t, 68);
+
 _Static_assert(NDEF_OK == 0, "NDEF_OK");
 _Static_assert(NDEF_REFUSED == 1, "NDEF_REFUSED");
 _Static_assert(NDEF_BUFFER_TOO_SMALL == 2, "NDEF_BUFFER_TOO_SMALL");
@@ -250,6 +273,7 @@ _Static_assert(NDEF_HINT_CODE == 13, "NDEF_HINT_CODE");
 _Static_assert(NDEF_HINT_STANDARD == 14, "NDEF_HINT_STANDARD");
 _Static_assert(NDEF_HINT_INTERRUPTED == 15, "NDEF_HINT_INTERRUPTED");
 _Static_assert(NDEF_HINT_UNFINISHED == 16, "NDEF_HINT_UNFINISHED");
+_Static_assert(NDEF_HINT_OD == 17, "NDEF_HINT_OD");
 _Static_assert(NDEF_KIND_OTHER == 0, "NDEF_KIND_OTHER");
 _Static_assert(NDEF_KIND_TEXT == 1, "NDEF_KIND_TEXT");
 _Static_assert(NDEF_KIND_URI == 2, "NDEF_KIND_URI");

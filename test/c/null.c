@@ -129,6 +129,17 @@ static void item_calls(int way, const uint8_t *none, uint8_t *buffer) {
     ndef_default_limits(&limits);
     answer(way, ndef_items(none, 0, &limits, &why, way ? &item : NULL, 0));
     answer(way, ndef_items((const uint8_t *)"\xd0\0", 3, &limits, &why, way ? &item : NULL, 0));
+#if NDEF_VERSION_MINOR >= 1
+    uint32_t number = 9;
+    answer(way, ndef_items_within(NDEF_KIND_SMART_POSTER, none, 0, 0, &why, way ? &item : NULL, 0));
+    answer(way, ndef_items_within(NDEF_KIND_SELECT, (const uint8_t *)"\x12", 1, 0, &why, way ? &item : NULL, 0));
+    answer(way, ndef_number(NDEF_KIND_ACTION, none, 0, &number, &why));
+    ndef_handover_parts parts = { 9, 9, 9, 9, 9, 9, 9, 9, 9 };
+    ndef_reference_item reference;
+    answer(way, ndef_handover_items(NDEF_KIND_SELECT, none, 0, 0, none, 0, &parts, &why, way ? &reference : NULL, 0));
+    answer(way, ndef_handover_items(NDEF_KIND_SELECT, (const uint8_t *)"\x12", 1, 0, none, 0, &parts, &why, way ? &reference : NULL, 0));
+    count = parts.references;
+#endif
     answer(way, ndef_check_layout(none, 0, way ? &octets : NULL, 0, &out));
     count = (ndef_size)out.place;
     answer(way, ndef_check_layout((const uint8_t *)"\0", 1, way ? &octets : NULL, 0, &out));

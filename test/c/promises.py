@@ -31,7 +31,7 @@ PAYLOADS = ('', '02656e48656c6c6f', '82656efeff0041', '0161', '2461', '12', '12d
             '12910204616301013000510302657272 0140')
 NAMES = ('', '54', '55', '5370', '4872', '612f62', '656e', '6465', '30', '6964', 'e9', 'ff', '68747470733a2f2f612e636f6d', '74656c3a31', '61' * 64, '78' * 256, '0a')
 NUMBERS = (0, 0, 0, 1, 1, 2, 3, 4, 5, 7, 8, 12, 13, 24, 36, 40, 255, 256, 65536, 0xffffffff)
-VALUES = {'tnf': (0, 1, 1, 1, 2, 5, 7), 'at': (0, 0, 0, 0, 3, 12, 15, 0xffffffff)}
+VALUES = {'tnf': (0, 1, 1, 1, 2, 5, 7), 'at': (0, 0, 0, 0, 3, 12, 15, 0xffffffff), 'kind': (0, 3, 3, 4, 5, 7, 8, 11, 13)}
 OCTETS = {'bytes': MESSAGES + NAMES, 'message': MESSAGES, 'payload': PAYLOADS + NAMES, 'part': ('', '', '54', '5370', '00' * 100)}
 LIMITS = ((1048576, 1024, 4096, 0), (1048576, 1024, 4096, 1), (1048576, 1024, 4096, 2), (5, 1, 1, 0), (0, 1, 1, 0), (1, 1, 65536, 0), (1, 1, 1, 8))
 
@@ -136,11 +136,11 @@ class Promises:
 
     def __init__(self):
         found = re.search(r'With NDEF_BAD_ARGUMENT and NDEF_END the call has written nothing \(but (\w+) has written its (\w+)\); with NDEF_BUFFER_TOO_SMALL it has written (.+?)\. '
-                          r'Where the array is too small or there is no field, (.+?) have written \*(\w+) as well, and (ndef_\w+), which has no count, \*(\w+)\.', SAID)
+                          r'Where the array is too small or there is no field, (.+?) have written \*(\w+) as well, and ((?:ndef_\w+(?:, | and ))+ndef_\w+), which have no count, \*(\w+)\.', SAID)
         self.beside = {found[1]: found[2]}
         self.without_buffer = {found[3].split()[0].lstrip('*')} if found[3].startswith('*') else set()
         self.with_refusal = {name: found[5] for name in re.findall(r'ndef_\w+', found[4])}
-        self.without_count = {found[6]: found[7]}
+        self.without_count = {name: found[7] for name in re.findall(r'ndef_\w+', found[6])}
         self.is_refusal_kept = 'With NDEF_OK it leaves `refusal` unchanged.' in SAID
         more = re.search(r'NDEF_MORE = \d+ +/\*.*?\((ndef_\w+) alone\) \*/', HEADER)
         self.of_more = {more[1]} if more else None
@@ -201,7 +201,7 @@ def wrong_of(library, promises, name, dice, seen):
 LOOKED_AT = (
     'With NDEF_BAD_ARGUMENT and NDEF_END the call has written nothing (but ndef_begin has written its checker);',
     'with NDEF_BUFFER_TOO_SMALL it has written *count alone.',
-    'Where the array is too small or there is no field, ndef_fields, ndef_field_at and ndef_next_field have written *refusal as well, and ndef_items, which has no count, *out.',
+    'Where the array is too small or there is no field, ndef_fields, ndef_field_at and ndef_next_field have written *refusal as well, and ndef_items, ndef_items_within and ndef_handover_items, which have no count, *out.',
     'the items are unchanged.',
     'those after them are unchanged.',
     'Where the buffer is too small, the answer is NDEF_BUFFER_TOO_SMALL and *count has the size that is needed:',

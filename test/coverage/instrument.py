@@ -11,6 +11,7 @@ import sys
 LABEL = re.compile(r'^("[^"]*"|[\w.$]+):')
 CONDITIONAL = re.compile(r'^\tj(?!mp)(\w+)\t(\S+)')
 FUNCTION = re.compile(r'^\t\.type\t("[^"]*"|[\w.$]+),@function')
+LONG_NAME = re.compile(r'^\t\.set\t("[^"]*"), (\.Lf\w+)$')
 TABLE_ENTRY = re.compile(r'^\t\.long\t(\.LBB\w+)-(\.LJTI\w+)')
 # 128 bytes below the stack's end may be in use, and the flags too.
 STEP = ['\tleaq\t-128(%rsp), %rsp', '\tpushfq', '\tincq\tcoverage_steps(%rip)', '\tpopfq', '\tleaq\t128(%rsp), %rsp']
@@ -43,13 +44,14 @@ class Marks:
 def changed(lines, steps):
     """The lines with marks, and the marks."""
     marks, made, functions, function, owners = Marks(), [], set(), '', {}
+    long_names = {match[2]: match[1] for match in map(LONG_NAME.match, lines) if match}
     for line in lines:
         is_function, label, entry = FUNCTION.match(line), LABEL.match(line), TABLE_ENTRY.match(line)
         jump = CONDITIONAL.match(line)
         if is_function:
             functions.add(is_function[1])
         if label and label[1] in functions:
-            function = label[1]
+            function = long_names.get(label[1], label[1])
         for table in re.findall(r'\.LJTI\w+(?=\(%rip\))', line):
             owners[table] = function
         if jump:

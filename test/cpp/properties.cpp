@@ -367,10 +367,10 @@ static void asked_one_by_one() {
     LOOK(ndef::alternative::read(carrier)->references().size() == 1 && ndef::links(*ndef::message::check(hello), select).size() == 0);
     ndef::found_hint found;
     // Release 1.0 has 14 kinds, so that its type has no number above 15.
-    for (unsigned kind = 1; kind <= (ndef_version() < 0x010100 ? 15U : 17U); kind++) {
+    for (unsigned kind = 1; kind <= (ndef_version() < 0x010100 ? 15U : 18U); kind++) {
         found.kind = static_cast<ndef::hint_kind>(kind);
         found.size = kind % 2;
-        LOOK(found.text().empty() == (kind == 17));
+        LOOK(found.text().empty() == (kind == 18));
     }
 }
 

@@ -53,6 +53,16 @@ int main(int count, char **words) {
 }
 '''
 
+# The source of the commands for this machine.
+SOURCE = {'x86_64': 'commands-x86_64-linux.s', 'aarch64': 'commands-aarch64-linux.s'}.get(platform.machine(), 'commands.c')
+
+
+def source(text):
+    """A program in C as that source has it."""
+    made = subprocess.run([*os.environ.get('CC', 'cc').split(), '-xc', '-', '-S', '-fPIE', '-o', '-'], input=text, capture_output=True, text=True, check=True)
+    return made.stdout if SOURCE.endswith('.s') else text
+
+
 # The library in dist/.
 LIBRARY = '#include "ndef.h"\nint answer(void) {\n#ifdef OTHER\n    return OTHER;\n#else\n    return 5;\n#endif\n}\n'
 
@@ -71,7 +81,7 @@ class Copy:
             (self.folder / 'crates' / crate / 'src').mkdir(parents=True)
             (self.folder / 'crates' / crate / 'src/main.rt').write_text('')
         (self.folder / 'dist').mkdir()
-        self.release({'commands.c': COMMANDS, 'runtime.c': 'extern int no_calls;\n', 'ndef.c': LIBRARY, 'ndef.h': 'int answer(void);\n'}, '9.8.7')
+        self.release({SOURCE: source(COMMANDS), 'runtime.c': 'extern int no_calls;\n', 'ndef.c': LIBRARY, 'ndef.h': 'int answer(void);\n'}, '9.8.7')
         (self.folder / 'status').write_text('1')
         (self.folder / 'moment').mkdir()
         (self.folder / 'bin').mkdir()
@@ -132,13 +142,13 @@ def from_another_dist(copy):
     """Where a file of dist/ or a command is newer or missing, the commands are compiled again."""
     copy.run('ndef', 'show')
     said = 'ndef: compiling release %s of dist/, once'
-    copy.release({'commands.c': COMMANDS.replace('dist %s', 'other %s')}, '9.8.8')
+    copy.release({SOURCE: source(COMMANDS.replace('dist %s', 'other %s'))}, '9.8.8')
     os.utime(copy.folder / 'dist/SOURCE', (0, 0))
-    os.utime(copy.folder / 'dist/commands.c', (time.time() + 5, time.time() + 5))
+    os.utime(copy.folder / 'dist' / SOURCE, (time.time() + 5, time.time() + 5))
     run = copy.run('ndef', 'show')
     yield from expect(run, 0, 'other ndef show\n')
     yield from says_only(run, said % '9.8.8')
-    for name, at in (('commands.c', 0), ('runtime.c', time.time() + 5)):
+    for name, at in ((SOURCE, 0), ('runtime.c', time.time() + 5)):
         os.utime(copy.folder / 'dist' / name, (at, at))
     yield from says_only(copy.run('ndef', 'show'), said % '9.8.8')
     os.utime(copy.folder / 'dist/runtime.c', (0, 0))
@@ -227,12 +237,11 @@ def not_from_dist(copy):
     yield from expect(run, 3, '')
     yield from says_only(run, "ndef: dist/runtime.c isn't the file whose SHA-256 is in dist/SOURCE: take dist/ from the release again, "
                               "as by 'git checkout dist'")
-    (dist / 'commands.c').rename(dist / 'commands-pdp11-linux.s')
     (copy.folder / 'bin/elsewhere').write_text('#!/bin/sh\necho riscv64-linux-gnu\n')
     (copy.folder / 'bin/elsewhere').chmod(0o755)
     run = copy.run('ndef', 'show', CC='elsewhere')
     yield from expect(run, 3, '')
-    yield from says_only(run, 'ndef: dist/ has commands for x86-64 and AArch64 Linux alone, and this compiler is for riscv64-linux-gnu: '
+    yield from says_only(run, 'ndef: dist/ has commands for x86-64 and AArch64 Linux only, and this compiler is for riscv64-linux-gnu: '
                               "make the library for C with 'make library'")
     shutil.rmtree(dist)
     run = copy.run('ndef', 'show')
@@ -361,12 +370,9 @@ def for_two_processors(copy):
     """On x86-64 the commands are compiled of the sources for both processors, where the release has both, and run that for this one."""
     if platform.machine() != 'x86_64':
         return
-    compiler = os.environ.get('CC', 'cc').split()
     texts = {'runtime.c': 'int ndef_commands(void);\nint main(void) { return ndef_commands(); }\n'}
     for file, name, said in (('commands-x86_64-linux.s', 'ndef_commands', 'plain'), ('commands-x86_64-v2-linux.s', 'ndef_commands_v2', 'faster')):
-        text = '#include <stdio.h>\nint %s(void) { return puts("%s") < 0; }\n' % (name, said)
-        texts[file] = subprocess.run([*compiler, '-xc', '-', '-S', '-fPIE', '-o', '-'], input=text, capture_output=True, text=True, check=True).stdout
-    (copy.folder / 'dist/commands.c').unlink()
+        texts[file] = source('#include <stdio.h>\nint %s(void) { return puts("%s") < 0; }\n' % (name, said))
     copy.release(texts, '9.8.9')
     flags = re.search('(?m)^flags.*', pathlib.Path('/proc/cpuinfo').read_text())[0].split()
     has_v2 = {'pni', 'ssse3', 'cx16', 'sse4_1', 'sse4_2', 'popcnt'} <= set(flags)
@@ -380,6 +386,66 @@ def for_two_processors(copy):
     copy.release({}, '9.9.0')
     os.utime(copy.folder / 'dist/SOURCE', (time.time() + 5, time.time() + 5))
     yield from expect(copy.run('ndef', 'show'), 0, 'plain\n')
+
+
+# A program of four parts, which says how it was compiled.
+PARTED = r'''#include <stdio.h>
+#ifdef ND_PART
+#define IS(part) (ND_PART == part)
+#else
+#define IS(part) 1
+#endif
+int second(void), third(void), fourth(void);
+#if IS(1)
+int main(void) {
+#ifdef __OPTIMIZE__
+    puts("fast");
+#elif defined TCC
+    puts("by tcc");
+#elif defined ND_PART
+    puts("in parts");
+#endif
+    return second() + third() + fourth();
+}
+#endif
+#if IS(2)
+int second(void) { return 0; }
+#endif
+#if IS(3)
+int third(void) { return 0; }
+#endif
+#if IS(4)
+int fourth(void) { return 0; }
+#endif
+'''
+
+
+def by_the_c_file(copy):
+    """Without assembly for the machine the scripts compile commands.c in the least time, and make by -O2."""
+    if SOURCE.endswith('.s'):
+        (copy.folder / 'dist' / SOURCE).unlink()
+    copy.release({'commands.c': PARTED}, '9.8.8')
+    said = 'ndef: compiling release 9.8.8 of dist/, once'
+    slowly = said + ", which takes some seconds ('make' makes faster ones)"
+    copy.program('tcc', 'exec cc -DTCC "$@"\n')
+    for words, printed, line in (({}, 'by tcc\n', said), ({'CC': 'cc'}, 'in parts\n', slowly)):
+        shutil.rmtree(copy.folder / 'out', ignore_errors=True)
+        run = copy.run('ndef', 'show', **words)
+        yield from expect(run, 0, printed)
+        yield from says_only(run, line)
+        if sorted(path.name for path in (copy.folder / 'out/dist/quick').iterdir()) != sorted(SCRIPTS):
+            yield f'{words}: other files are left in out/dist/quick'
+        yield from says_only(copy.run('ndef', 'show'), 'ndef: running release 9.8.8 of dist/')
+    yield from expect(copy.run('packaging/build/from_dist', 'commands'), 0, '', said.replace('ndef', 'from_dist'))
+    yield from expect(copy.run('ndef', 'show'), 0, 'fast\n', 'ndef: running release 9.8.8 of dist/')
+    copy.program('tcc', 'exit 1\n')
+    shutil.rmtree(copy.folder / 'out')
+    yield from expect(copy.run('ndef', 'show'), 0, 'in parts\n', slowly)
+    copy.release({'commands.c': PARTED.replace('int third(void) {', 'int third(void) { no')}, '9.8.9')
+    shutil.rmtree(copy.folder / 'out')
+    yield from expect(copy.run('ndef', 'show', CC='cc'), 3, '', "ndef: cc doesn't compile dist/, as it says above: name another C compiler with CC")
+    if any((copy.folder / 'out/dist/quick').iterdir()):
+        yield 'a part that is not compiled leaves a file'
 
 
 def interrupted(copy):
@@ -442,17 +508,19 @@ READS = {**{(script, word): None for script in SCRIPTS for word in ('--help', '-
 def on_a_terminal(copy):
     if not harness.has('pseudo-terminals'):
         return
-    for script in SCRIPTS:
-        copy.run(script, '--prove')
     terminal, end = pty.openpty()
-    for words, reads in READS.items():
-        waiting = [f'{words[0]}: reading {reads} from standard input'] if reads else []
-        run = copy.run(*words, stdin=end)
-        yield from expect(run, 0, ' '.join(['built', *words]) + '\n', *waiting)
-        if run.stderr.splitlines() != waiting:
-            yield f'{words}: on a terminal {run.stderr!r}'
-        if copy.run(*words).stderr:
-            yield f'{words}: where no terminal is the input, it says that it waits'
+    for version in '1.0.0', '9.8.7':
+        copy.release({}, version)
+        for script in SCRIPTS:
+            copy.run(script)
+        for words, reads in READS.items():
+            waiting = [f'{words[0]}: reading {reads} from standard input'] if reads and version == '1.0.0' else []
+            said = [f'{words[0]}: running release {version} of dist/', *waiting]
+            run = copy.run(*words, stdin=end)
+            if run.stderr.splitlines() != said:
+                yield f'{words}: on a terminal {run.stderr!r}'
+            if copy.run(*words).stderr.splitlines() != said[:1]:
+                yield f'{words}: where no terminal is the input, it says that it waits'
     os.close(terminal)
     os.close(end)
 
@@ -462,6 +530,7 @@ def all_tests(top):
     tests = {'the scripts compile dist/ once, and say that they run it': from_dist,
              'the scripts compile dist/ again where a file of it is newer or a command is missing': from_another_dist,
              'the scripts compile the commands for two processors, where dist/ has both, and run those for this one': for_two_processors,
+             'the scripts compile commands.c where dist/ has no assembly for the machine, in the least time': by_the_c_file,
              'the scripts compile dist/ with the compiler that CC names, or the first that is there': with_compilers,
              'packaging/build/from_dist compiles the library and looks at sums': library_from_dist,
              'packaging/build/crates_or_dist says of what things are made': made_of,

@@ -126,7 +126,8 @@ def main():
     most()
     with tempfile.TemporaryDirectory() as folder:
         names(folder)
-    memory()
+    if not os.environ.get('NDEF_EMULATED'):  # (an emulator takes memory of its own)
+        memory()
     print('%d passed, %d failed' % (counts[True], counts[False]))
     sys.exit(counts[False] > 0)
 

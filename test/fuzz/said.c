@@ -35,7 +35,7 @@ static uint32_t checked_from(ndef_size at, const ndef_limits *limits) {
 }
 
 /* Hints for which the header of release 1.0 has no names. */
-enum { INTERRUPTED = 15, UNFINISHED = 16 };
+enum { INTERRUPTED = 15, UNFINISHED = 16, OD = 17 };
 
 /* A hint is true: a message begins where it says so, and the standard profile reads what it says that this reads. */
 static void look_at_hint(const ndef_limits *limits) {
@@ -56,8 +56,8 @@ static uint32_t found_at(const uint8_t *bytes, ndef_size size, const ndef_limits
     const uint32_t answer = ndef_find_hint(bytes, size, limits, &found);
     HOLDS(answer == ndef_hint(bytes, size, limits, sentence, LONGEST, &count));
     if (answer != NDEF_OK) return 0;
-    HOLDS(found.hint >= NDEF_HINT_TLV && found.hint <= UNFINISHED);
-    if (found.hint >= INTERRUPTED) HOLDS(found.at > 0 && found.length == 0);
+    HOLDS(found.hint >= NDEF_HINT_TLV && found.hint <= OD);
+    if (found.hint == INTERRUPTED || found.hint == UNFINISHED) HOLDS(found.at > 0 && found.length == 0);
     else if (found.hint > NDEF_HINT_MESSAGE) HOLDS(found.at == 0 && found.length == 0);
     if (found.hint == NDEF_HINT_MESSAGE)
         HOLDS(found.at < size && found.length == 0 && ndef_check(bytes + found.at, size - found.at, limits, &checked) == NDEF_OK);

@@ -1,6 +1,6 @@
 #!/usr/bin/python3
-"""by_hand.py: the translators of ports/ over a module that was written by hand, with each kind of line (numbers.ll, memory.ll, flow.ll): its translation is
-read back; what they don't know they refuse (refusals.py); of narrow.ll the functions `lost..` lose half of a number on a machine of 32 bits; and each fault of
+"""by_hand.py: the translators of ports/ over a module that was written by hand, with each kind of line (numbers.ll, memory.ll, flow.ll), and over a program with
+what a library hasn't (program.ll): their translations are read back; what they don't know they refuse (refusals.py); of narrow.ll the functions `lost..` lose half of a number on a machine of 32 bits; and each fault of
 faults.txt in one of them is found by one of these. Prints 'N passed, M failed'."""
 import pathlib
 import re
@@ -17,17 +17,19 @@ HERE = pathlib.Path(__file__).resolve().parent
 sys.path.insert(0, str(HERE.parent))
 from harness import count, finish  # noqa: E402
 
+PROGRAM = (HERE / 'program.ll').read_text(encoding='utf-8')
 BY_HAND = ''.join((HERE / f'{name}.ll').read_text(encoding='utf-8') for name in ('numbers', 'memory', 'flow'))
 
 
 def differences(ports):
-    """What readback.py finds in the translation of the module, or why there is none."""
+    """What readback.py finds in the translations of the module and the program, or why there is none."""
     try:
-        file = File(ports.translated(BY_HAND, HERE, '0', 'ndef.c'))
+        made = [(BY_HAND, ports.translated(BY_HAND, HERE, '0', 'ndef.c')), (PROGRAM, ports.translated_program(PROGRAM, '0', 'commands.c'))]
     except Exception as why:
         return [f'it is not translated: {why}']
     try:
-        return [f'{kind}: {name}: {why}' for kind, wrong in compared(Module(BY_HAND, file), file)[0].items() for name, why in wrong]
+        read = [(text, File(of_c)) for text, of_c in made]
+        return [f'{kind}: {name}: {why}' for text, file in read for kind, wrong in compared(Module(text, file), file)[0].items() for name, why in wrong]
     except Exception as why:
         return [f'it is not read: {why}']
 
@@ -58,7 +60,7 @@ def main():
     sys.setrecursionlimit(20000)
     ports = loaded()
     wrong = differences(ports)
-    count('the module by hand is read back', not wrong, *wrong)
+    count('the module and the program by hand are read back', not wrong, *wrong)
     for name, passes, said in [*tests(ports), *narrow_tests(ports)]:
         count(name, passes, said, quiet=True)
     for fault in faults():

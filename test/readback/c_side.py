@@ -5,16 +5,19 @@ import re
 from pycparser import c_ast
 
 from module_side import Wrong
-from terms import atom, binary, const, equal, field, is_const, ite, less, most, negated, not_zero, raw, same, sext, shift, struct, trunc, zext
+from terms import atom, binary, const, equal, field, fraction_less, is_const, ite, less, most, negated, not_zero, raw, same, sext, shift, struct, trunc, zext
 
 PRELUDE = '''typedef unsigned char uint8_t; typedef unsigned short uint16_t; typedef unsigned int uint32_t; typedef unsigned long uint64_t;
 typedef signed char int8_t; typedef short int16_t; typedef int int32_t; typedef long int64_t;
 typedef unsigned long size_t; typedef unsigned long uintptr_t; typedef long ptrdiff_t;
 '''
 POINTER, INT = ('p', 64), ('s', 32)
-TYPES = {'int': INT, 'size_t': ('u', 64), 'uintptr_t': ('u', 64), 'ptrdiff_t': ('s', 64), 'void': None,
+FRACTION, EXACT = ('d', 64), ('x', 64)  # rounded to 64 bits, and perhaps not yet
+WIDE = ('u', 128)
+TYPES = {'int': INT, 'double': FRACTION, 'size_t': ('u', 64), 'uintptr_t': ('u', 64), 'ptrdiff_t': ('s', 64), 'void': None,
          **{f'{"u" if sign == "u" else ""}int{bits}_t': (sign, bits) for sign in 'us' for bits in (8, 16, 32, 64)}}
-HELPER = re.compile(r'nd_(umin|umax|smin|smax|usub_sat|uadd_sat|cttz|bswap)_i(\d+)$')
+HELPER = re.compile(r'nd_(umin|umax|smin|smax|usub_sat|uadd_sat|cttz|ctlz|abs|bswap)_i(\d+)$')
+OF_WIDE = re.compile(r'nd_(add|sub|mul|and|or|xor|shl|lshr|eq|ult|slt|sext)_i(128)$')
 ARITHMETIC = {'+': 'add', '-': 'sub', '*': 'mul', '&': 'and', '|': 'or', '^': 'xor', '/': 'udiv', '%': 'urem'}
 COPIES = {'nd_copy': 'memcpy', 'nd_move': 'memmove', 'nd_fill': 'memset', 'nd_memcpy': 'memcpy', 'nd_memmove': 'memmove', 'nd_memset': 'memset'}
 
@@ -24,7 +27,7 @@ def c_type(node):
         return POINTER
     if isinstance(node, c_ast.TypeDecl):
         if isinstance(node.type, c_ast.Struct):
-            return 'struct', node.type.name
+            return WIDE if node.type.name == 'nd_wide' else ('struct', node.type.name)
         if node.type.names in (['unsigned', 'char'],) or len(node.type.names) == 1 and node.type.names[0] in TYPES:
             return TYPES[node.type.names[0]] if len(node.type.names) == 1 else TYPES['uint8_t']
     raise Wrong(f'C: a type {node}')
@@ -32,7 +35,9 @@ def c_type(node):
 
 def type_of_words(text):
     """The type of a member or a parameter, by the text before its name."""
-    return POINTER if '*' in text else ('struct', text.split()[1]) if text.startswith('struct') else TYPES[text.split()[0]]
+    if text.startswith('struct'):
+        return WIDE if text.split()[1] == 'nd_wide' else ('struct', text.split()[1])
+    return POINTER if '*' in text else TYPES[text.split()[0]]
 
 
 class CFunction:
@@ -68,11 +73,19 @@ class Evaluator:
     """Evaluates C in a state of `Simulation`, which says what variables hold and where the module counts on pointers."""
 
     def cast(self, term, from_type, to):
+        if 'd' in (to[0], from_type[0]) and to != from_type or 'x' in (to[0], from_type[0]):
+            return self.to_fraction(term, from_type, to)
         if to[0] == 'struct':
             return term if from_type[0] == 'struct' else self.zero(to)
         if to[1] <= from_type[1]:
             return trunc(term, to[1])
         return sext(term, to[1]) if from_type[0] == 's' else zext(term, to[1])
+
+    @staticmethod
+    def to_fraction(term, from_type, to):
+        if to != FRACTION or from_type[0] != 'u' and not (is_const(term) and most(term) < 1 << 31):
+            raise Wrong(f'C: a fraction of {from_type} as {to}')
+        return term if is_const(term) and not term.args[0] else raw('uitofp', 64, zext(term, 64))
 
     def zero(self, type_of):
         return struct([self.zero(part) for part in self.file.structs[type_of[1]]]) if type_of[0] == 'struct' else const(0, type_of[1])
@@ -107,6 +120,8 @@ class Evaluator:
                 return atom('@' + e.name.name, 64), POINTER
             return self.slot(e.name.name), POINTER
         term, type_of = self.ev(s, e.name)
+        if type_of == WIDE:
+            return trunc(term if e.field.name == 'low' else shift('lshr', term, const(64, 128)), 64), ('u', 64)
         place = int(e.field.name[1:])
         return field(term, place), self.file.structs[type_of[1]][place]
 
@@ -127,6 +142,8 @@ class Evaluator:
             return atom('@' + e.expr.name, 64), POINTER
         if e.op == '-':
             term, type_of = self.promoted(*self.ev(s, e.expr))
+            if type_of == FRACTION:
+                return raw('fneg', 64, term), type_of
             if type_of[0] == 'u' or is_const(term):
                 return binary('sub', const(0, type_of[1]), term), type_of
         raise Wrong(f'C: {e.op}')
@@ -134,7 +151,7 @@ class Evaluator:
     def ev_TernaryOp(self, s, e):
         condition = not_zero(self.ev(s, e.cond)[0])
         a, b = self.ev(s, e.iftrue), self.ev(s, e.iffalse)
-        if a[1][0] == 'struct' or POINTER in (a[1], b[1]):
+        if a[1][0] == 'struct' or POINTER in (a[1], b[1]) or a[1] == b[1] and a[1] in (FRACTION, WIDE):
             return ite(condition, a[0], b[0]), a[1]
         x, y, type_of = self.common(a, b)
         return ite(condition, x, y), type_of
@@ -151,10 +168,50 @@ class Evaluator:
         if match:
             type_of = 'u', int(match[2])
             return raw(match[1], type_of[1], *[self.cast(*self.ev(s, arg), type_of) for arg in args]), type_of
+        if name in ('nd_fence', 'nd_real', 'nd_bits'):
+            return self.fraction(name, *self.ev(s, args[0]))
+        if name == 'nd_wide' or OF_WIDE.match(name):
+            return self.wide(name, [self.ev(s, arg) for arg in args])
+        if name == 'nd_aligned' and isinstance(args[0], c_ast.StructRef):
+            return self.slot(args[0].name.name, 16), POINTER
         raise Wrong(f'C: a call {name} within an expression')
+
+    @staticmethod
+    def fraction(name, term, type_of):
+        """A fraction rounded, of its bits, or its bits."""
+        if type_of not in {'nd_fence': (FRACTION, EXACT), 'nd_real': (('u', 64),), 'nd_bits': (FRACTION,)}[name]:
+            raise Wrong(f'C: {name} of {type_of}')
+        return term, ('u', 64) if name == 'nd_bits' else FRACTION
+
+    def wide(self, name, values):
+        """A number of 128 bits, of two or of one of 64, or of two of 128 bits."""
+        if name in ('nd_wide', 'nd_sext_i128'):
+            low, *high = [self.cast(*value, ('u', 64)) for value in values]
+            return binary('or', zext(low, 128), shift('shl', zext(high[0], 128), const(64, 128))) if high else sext(low, 128), WIDE
+        if [type_of for _, type_of in values] != [WIDE] * 2:
+            raise Wrong(f'C: {name} of other numbers')
+        (a, _), (b, _), op = *values, OF_WIDE.match(name)[1]
+        if op in ('eq', 'ult', 'slt'):
+            return zext(equal(a, b) if op == 'eq' else less(a, b, op == 'slt'), 8), ('u', 8)
+        return shift(op, a, binary('and', b, const(127, 128))) if op in ('shl', 'lshr') else binary(op, a, b), WIDE
+
+    @staticmethod
+    def of_fractions(op, a, b):
+        if op in ('+', '-', '*', '/'):
+            return raw({'+': 'fadd', '-': 'fsub', '*': 'fmul', '/': 'fdiv'}[op], 64, a, b), EXACT
+        if op in ('==', '!='):
+            is_equal = raw('feq', 1, *sorted((a, b), key=lambda term: term.id))
+            return zext(is_equal if op == '==' else negated(is_equal), 32), INT
+        return zext(fraction_less(op, a, b), 32), INT
 
     def ev_BinaryOp(self, s, e, at_once=False):
         a, b, op = self.ev(s, e.left), self.ev(s, e.right), e.op
+        if op in ('&&', '||'):
+            return zext(binary('and' if op == '&&' else 'or', not_zero(a[0]), not_zero(b[0])), 32), INT
+        if (a[1], b[1]) == (FRACTION, FRACTION):
+            return self.of_fractions(op, a[0], b[0])
+        if {a[1], b[1]} & {FRACTION, EXACT, WIDE}:
+            raise Wrong(f'C: {op} of {a[1]} and {b[1]}')
         if a[1] == POINTER and op in ('+', '-') and b[1] != POINTER:
             offset = self.cast(*self.promoted(*b), ('s', 64))
             return self.counted(s, a[0], binary('sub', const(0, 64), offset) if op == '-' else offset, at_once), POINTER

@@ -7,8 +7,9 @@ from module_side import Instruction, Reader, Wrong, read_module, size_align
 # What is defined before the functions, as it has to be.
 DEFINED = {
     'nd_memcpy': ('memcpy', '__builtin_memcpy'), 'nd_memmove': ('memmove', '__builtin_memmove'), 'nd_memset': ('memset', '__builtin_memset'),
-    'nd_stop()': ('__builtin_trap()', 'do { } while (1)'), 'ND_ROOM(size)': ('union { unsigned char b[size]; uint64_t a; }',),
+    'ND_LOCAL': ('static', ''), 'ND_IN(part)': ('(ND_PART == part)', '1'), 'nd_stop()': ('__builtin_trap()', 'do { } while (1)'), 'ND_ROOM(size)': ('union { unsigned char b[size]; uint64_t a; }',),
     'ND_POINTER': ('union { const unsigned char *p; uint64_t a; }',)}
+PROGRAM = '/* What runtime.c has. */'  # the line before what a program asks of the system
 FUNCTION = re.compile(r'^static (?:[\w ]+?|unsigned char \*|struct \w+ )\*?(nd_\w+)\(([^;{]*)\) \{\n.*?^\}$', re.M | re.S)
 
 
@@ -17,9 +18,13 @@ class Module:
     That is a hint, which the comparison checks."""
 
     def __init__(self, text, file):
-        self.functions, self.constants = read_module(text)
+        self.functions, self.constants, declared = read_module(text)
         self.names = dict(zip(self.functions, file.bodies))
         self.of_c_name = {c_name: name for name, c_name in self.names.items()}
+        # What a program asks of the system.
+        hosts = {name: name if name.startswith('rattle_') else 'ndef_host_' + name.removeprefix('__sysv_') for name in declared if name[:5] != 'llvm.'}
+        self.hosts = {c_name: declared[name] for name, c_name in hosts.items()}
+        self.names.update(hosts)
         for name in self.constants:
             words = 'nd_data_' + re.sub(r'\W+', '_', re.sub(r'::<.*', '', name)).strip('_')
             chosen, count = words, 1
@@ -34,19 +39,22 @@ class Module:
         return self.names[name]
 
     def type_of(self, c_name):
-        return self.functions[self.of_c_name[c_name]].type
+        return self.hosts[c_name] if c_name in self.hosts else self.functions[self.of_c_name[c_name]].type
 
 
 class File:
     """A C file: its functions' texts (`bodies`), the types of their `parameters`, the parts of `structs`, and the bytes of constants (`data`)."""
 
     def __init__(self, text):
-        self.text = text
-        found = list(FUNCTION.finditer(text, text.index('nd_layout_is_known')))
+        self.is_program = PROGRAM in text
+        self.text = text = re.sub('^ND_LOCAL ', 'static ', text, flags=re.M)
+        found = list(FUNCTION.finditer(text, text.index(PROGRAM if self.is_program else 'nd_layout_is_known')))
         self.bodies = {match[1]: match[0] for match in found}
         self.parameters = {match[1]: [] if match[2] == 'void' else [type_of_words(part) for part in match[2].split(', ')] for match in found}
+        for type_of, name, types in re.findall(r'^(\w[\w ]*[ *])((?:rattle|ndef_host)_\w+)\(([^)]*)\);$', text, re.M):
+            self.parameters[name] = [] if types == 'void' else [type_of_words(part) for part in types.split(', ')]
         self.structs = {name: [type_of_words(part) for part in parts.rstrip('; ').split('; ')]
-                        for name, parts in re.findall(r'^struct (nd_(?!layout)\w+) \{ (.*) \};$', text, re.M)}
+                        for name, parts in re.findall(r'^struct (nd_(?!layout|wide)\w+) \{ (.*) \};$', text, re.M)}
         self.data = dict(c_constant(match[0]) for match in re.finditer(r'^static const (?:struct \{[^}]*\}[^;]*|[^;]*);', text, re.M))
 
     def wrong_definitions(self):

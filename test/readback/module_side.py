@@ -1,15 +1,17 @@
 """Reads the text of an LLVM module by rules of its own: what it doesn't know it refuses by Wrong."""
 import re
+import struct
 
+FRACTIONS = ('fadd', 'fsub', 'fmul', 'fdiv')
 PURE = {'add', 'sub', 'mul', 'and', 'or', 'xor', 'udiv', 'urem', 'shl', 'lshr', 'ashr', 'icmp', 'select', 'zext', 'sext', 'trunc', 'ptrtoaddr',
-        'ptrtoint', 'inttoptr', 'getelementptr', 'extractvalue', 'insertvalue', 'freeze', 'load', 'phi'}
-CASTS = ('zext', 'sext', 'trunc', 'ptrtoint', 'ptrtoaddr', 'inttoptr')
+        *FRACTIONS, 'fcmp', 'fneg', 'uitofp', 'bitcast', 'ptrtoint', 'inttoptr', 'getelementptr', 'extractvalue', 'insertvalue', 'freeze', 'load', 'phi'}
+CASTS = ('zext', 'sext', 'trunc', 'uitofp', 'bitcast', 'ptrtoint', 'ptrtoaddr', 'inttoptr')
 IDLE = ('llvm.lifetime.', 'llvm.assume', 'llvm.experimental.noalias')
 FLAGS = {'nuw', 'nsw', 'exact', 'disjoint', 'nneg', 'samesign', 'inbounds', 'nusw', 'tail', 'musttail', 'notail', 'fastcc'}
 ATTRIBUTES = {'noundef', 'zeroext', 'signext', 'nonnull', 'noalias', 'readonly', 'writeonly', 'readnone', 'nofree', 'immarg', 'returned',
               'writable', 'captures', 'range', 'dereferenceable', 'initializes', 'align', 'dead_on_return', 'dead_on_unwind'}
 LINKAGE = {'internal', 'private', 'dso_local', 'fastcc', 'unnamed_addr', 'local_unnamed_addr', 'hidden'}
-TOKEN = re.compile(r'c"(?:[^"\\]|\\.)*"|[@%]"[^"]*"|[@%!#][\w.$-]+|-?\d+|[A-Za-z_][\w.]*|<\{|\}>|"[^"]*"|\S')
+TOKEN = re.compile(r'c"(?:[^"\\]|\\.)*"|[@%]"[^"]*"|[@%!#][\w.$-]+|-?\d\.\d+e[+-]\d+|0x[0-9A-F]+|-?\d+|[A-Za-z_][\w.]*|<\{|\}>|"[^"]*"|\S')
 
 
 class Wrong(Exception):
@@ -17,7 +19,7 @@ class Wrong(Exception):
 
 
 class Reader:
-    """Words of a line. A type is a number of bits, ('struct', TYPE..), ('packed', TYPE..) or ('array', COUNT, TYPE); void has no bits."""
+    """Words of a line. A type is a number of bits, which a fraction and a pointer have too, ('struct', TYPE..), ('packed', TYPE..) or ('array', COUNT, TYPE); void has no bits."""
 
     def __init__(self, text):
         self.words, self.at = TOKEN.findall(text), 0
@@ -66,8 +68,8 @@ class Reader:
 
     def type(self):
         word = self.next()
-        if word in ('ptr', 'void'):
-            return 64 if word == 'ptr' else 0
+        if word in ('ptr', 'double', 'void'):
+            return 0 if word == 'void' else 64
         if re.fullmatch(r'i\d+', word):
             return int(word[1:])
         if word in ('{', '<{'):
@@ -110,7 +112,7 @@ def size_align(type_of):
 
 class Instruction:
     """A line of a block: `result`, `op`, `args` as its reader gives them, and `uses`, the registers that it reads. An operand is
-    ('%', name), ('@', name, bytes past it), ('k', number), ('undef',) or ('{', [(type, operand)])."""
+    ('%', name), ('@', name, bytes past it), ('k', number), ('undef',), ('{', [(type, operand)]) or (operation, type, operand, operand)."""
 
     def __init__(self, text):
         text = re.sub(r' #\d+$', '', re.sub(r'(, ![\w.]+ !\d+)+$', '', text.strip()))
@@ -141,6 +143,15 @@ class Instruction:
             return ('undef',)
         if re.fullmatch(r'-?\d+', word):
             return 'k', int(word)
+        if word[:2] == '0x' or 'e' in word and word[-1].isdigit() and word not in CASTS:
+            return 'k', int(word, 16) if word[:2] == '0x' else int.from_bytes(struct.pack('>d', float(word)), 'big')
+        if word in ('add', 'sub', 'xor'):
+            words.skip(FLAGS)
+            words.want('(')
+            inner, first = self.typed()
+            made = word, inner, first, self.after_comma(self.typed)[1]
+            words.want(')')
+            return made
         if word == '{':
             return '{', words.each_until('}', self.typed)
         if word == 'getelementptr':
@@ -180,6 +191,8 @@ class Instruction:
         predicate = self.words.next()
         return predicate, *self.read_binary()
 
+    read_fcmp = read_icmp
+
     def read_select(self):
         condition = self.typed()[1]
         type_of, first = self.after_comma(self.typed)
@@ -190,10 +203,12 @@ class Instruction:
         self.words.want('to')
         return type_of, value, self.words.type()
 
-    read_zext = read_sext = read_trunc = read_ptrtoint = read_ptrtoaddr = read_inttoptr = read_cast
+    read_zext = read_sext = read_trunc = read_uitofp = read_bitcast = read_ptrtoint = read_ptrtoaddr = read_inttoptr = read_cast
 
     def read_freeze(self):
         return self.typed()
+
+    read_fneg = read_freeze
 
     def read_load(self):
         return self.words.type(), self.after_comma(self.typed)[1]
@@ -230,6 +245,9 @@ class Instruction:
         self.words.skip(FLAGS)
         self.words.attributes()
         type_of = self.words.type()
+        if self.words.take('('):  # the types of parameters, the last of which is `...`
+            self.words.skip({'ptr', 'i32', 'i64', ','})
+            self.words.want('.', '.', '.', ')')
         called = self.words.next()
         if called[:1] != '@':
             raise Wrong(f'the module: a call of {called}')
@@ -265,7 +283,7 @@ class Instruction:
         return ()
 
     def type_of_result(self):
-        if self.op == 'icmp':
+        if self.op in ('icmp', 'fcmp'):
             return 1
         if self.op in ('getelementptr', 'alloca'):
             return 64
@@ -337,8 +355,8 @@ class Function:
 
 
 def read_module(text):
-    """The functions of a module and the lines of its constants, by name."""
-    functions, constants = {}, {}
+    """The functions of a module, the lines of its constants, and the types of what declared functions give, by name."""
+    functions, constants, declared = {}, {}, {}
     lines = text.split('\n')
     at = 0
     while at < len(lines):
@@ -346,9 +364,16 @@ def read_module(text):
         at += 1
         if line.startswith('@'):
             constants[name_of(re.match(r'@"[^"]*"|@[\w.$-]+', line)[0])] = line
+        elif line.startswith('declare'):
+            words = Reader(line)
+            words.next()
+            words.skip(LINKAGE)
+            words.attributes()
+            type_of = words.type()
+            declared[name_of(words.next())] = type_of
         elif line.startswith('define'):
             end = lines.index('}', at)
             function = Function(line, lines[at:end])
             functions[function.name] = function
             at = end + 1
-    return functions, constants
+    return functions, constants, declared

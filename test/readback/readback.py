@@ -33,7 +33,7 @@ def wrong_function(module, file, name, parser, body=None):
 def compared(module, file):
     """What differs, as (what, name, why), and how many there are of each kind."""
     parser = c_parser.CParser()
-    calls = [name for name, function in module.functions.items() if not function.is_internal]
+    calls = [name for name, function in module.functions.items() if not function.is_internal and not file.is_program]
     helpers, count = wrong_helpers(file, parser)
     kinds = {'constants': [(name, why) for name in module.constants if (why := wrong_constant(module, file, name))],
              'calls': [(name, why) for name in calls if (why := wrong_call(module, file, name))],

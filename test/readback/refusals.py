@@ -10,7 +10,9 @@ HEADER = '#include <stdint.h>\ntypedef uint64_t ndef_size;\nuint32_t ndef_f(uint
 # Lines of a function of `ptr %p, i64 %n, i32 %x`, and a word of what the translator says of them.
 LINES = [
     ('%a = sdiv i32 %x, 3', 'sdiv'),
-    ('%a = fadd double 1.0, 2.0', 'fadd'),
+    ('%a = frem double 1.000000e+00, 2.000000e+00', 'frem'),
+    ('%a = fcmp one double 1.000000e+00, 2.000000e+00\n%b = zext i1 %a to i32\nstore i32 %b, ptr %p, align 4', 'a comparison one'),
+    ('%a = fadd float 1.000000e+00, 2.000000e+00', 'type'),
     ('%a = add <2 x i32> zeroinitializer, zeroinitializer', 'type'),
     ('%a = load volatile i32, ptr %p, align 4', 'volatile'),
     ('store volatile i32 %x, ptr %p, align 4', 'volatile'),
@@ -27,7 +29,7 @@ LINES = [
     ('%a = insertvalue [2 x i64] poison, i64 %n, 0\nstore [2 x i64] %a, ptr %p, align 8', 'a struct of'),
     ('%a = insertvalue <{ i32 }> poison, i32 %x, 0\n%b = extractvalue <{ i32 }> %a, 0\nstore i32 %b, ptr %p, align 4', 'Struct'),
     ('%a = alloca i8, i64 %n, align 1', 'align'),
-    ('%a = alloca [4 x i8], align 16', 'aligned to 16'),
+    ('%a = alloca [4 x i8], align 32', 'aligned to 32'),
     ('br label %b\nb:\n%a = alloca i32, align 4\nstore i32 1, ptr %a, align 4', 'after the first'),
     ('%a = call i32 @elsewhere(i32 %x)', 'elsewhere'),
     ('%a = call i32 %p(i32 %x)', 'no function'),
@@ -36,7 +38,8 @@ LINES = [
     ('%a = call { i32, i1 } @llvm.uadd.with.overflow.i32(i32 %x, i32 %x)', 'uadd_with_overflow'),
     ('call void @llvm.memset.p0.i64(ptr %p, i8 0, i64 %n, i1 true)', 'volatile'),
     ('%a = add i64 %n, ptrtoint (ptr @elsewhere to i64)\nstore i64 %a, ptr %p, align 8', 'elsewhere'),
-    ('%a = ptrtoint ptr %p to i128\n%b = trunc i128 %a to i32\nstore i32 %b, ptr %p, align 4', '128 bits'),
+    ('%a = ptrtoint ptr %p to i128\n%b = trunc i128 %a to i32\nstore i32 %b, ptr %p, align 4', 'a cast ptrtoint'),
+    ('%a = zext i32 %x to i256\n%b = trunc i256 %a to i32\nstore i32 %b, ptr %p, align 4', '256 bits'),
     ('%a = add i32 %x, trunc (i64 ptrtoint (ptr @elsewhere to i64) to i32)', 'trunc'),
     ('br label %c\nb:\nbr label %c\nc:\n%a = phi i32 [ 1, %b ], [ 2, %nowhere ]\nstore i32 %a, ptr %p, align 4',
      'nowhere'),
@@ -61,10 +64,13 @@ FUNCTION = 'define i32 @ndef_f({parameters}) {{\n{lines}\n  ret i32 %x\n}}\n'
 
 TRIPLE, LAYOUT = 'riscv64-unknown-linux-gnu', 'e-m:e-p:64:64-i64:64'
 PROCESSOR = 'attributes #0 = { nounwind "probe-stack"="inline-asm" "stack-probe-size"="3072" "target-cpu"="x86-64" }\n'
-KNOWN = 'target datalayout = "e"\ntarget triple = "x86_64-unknown-linux-gnu"\n' + PROCESSOR * 4
+KNOWN = 'target datalayout = "e"\ntarget triple = "x86_64-unknown-linux-gnu"\n'
 # What a module of the library may not have besides, or may have once less.
 ADDED = ['%a = call i32 asm "nop", "=r"()', '%a = inttoptr i64 1 to ptr', 'define void @f(ptr byval(i32) %x)', PROCESSOR, 'target triple = ""',
          'define noundef i32 @ndef_more(ptr %x)', '%a = addrspacecast ptr %p to ptr addrspace(1)']
+
+
+MAIN = 'define i32 @main() {\n'
 
 
 def refused(ports, outside, lines, parameters='ptr %p, i64 %n, i32 %x'):
@@ -78,15 +84,28 @@ def refused(ports, outside, lines, parameters='ptr %p, i64 %n, i32 %x'):
     return ''
 
 
-def is_retargeted(ports, added=''):
-    """Whether retarget.py takes the known module with this besides."""
-    calls = re.findall(r'^uint32_t (ndef_\w+)\(', (PORTS.parent / 'include/ndef.h').read_text(encoding='utf-8'), re.M)
-    known = KNOWN + ''.join(f'define noundef i32 @{name}(ptr %x) {{\n' for name in calls)
+def is_refused_program(ports, old, new):
+    text = pathlib.Path(__file__).with_name('program.ll').read_text(encoding='utf-8')
     try:
-        ports.retargeted(f'{known}{added}\n', TRIPLE, LAYOUT)
+        ports.translated_program(text.replace(old, new), '0', 'commands.c')
+    except ports.Unknown:
+        return old in text
+    return False
+
+
+def is_retargeted(ports, added='', is_program=False):
+    """Whether retarget.py takes the known module, or that of a program, with this besides."""
+    calls = re.findall(r'^uint32_t (ndef_\w+)\(', (PORTS.parent / 'include/ndef.h').read_text(encoding='utf-8'), re.M)
+    known = KNOWN + PROCESSOR * ports.PROCESSORS[is_program] + ''.join(f'define noundef i32 @{name}(ptr %x) {{\n' for name in calls) * (not is_program)
+    try:
+        ports.retargeted(f'{known}{added}\n', TRIPLE, LAYOUT, is_program)
     except SystemExit:
         return False
     return True
+
+
+# What no program may have: a text of program.ll, and what would take its place.
+IN_PROGRAM = [('i32 524288)', 'i32 524288, i32 0)'), ('define i32 @main()', 'define i32 @other()'), ('define internal i64 @memory', 'define i64 @memory')]
 
 
 def tests(ports):
@@ -95,8 +114,12 @@ def tests(ports):
     for outside, lines, word in [*(('', lines, word) for lines, word in LINES), *((outside, '', word) for outside, word in OUTSIDE)]:
         said = refused(ports, outside, lines)
         yield f'`{(lines or outside).splitlines()[-1]}` is refused', word in said, said or 'it was translated'
+    for old, new in IN_PROGRAM:
+        yield f'a program with `{new}` is refused', is_refused_program(ports, old, new), ''
     said = refused(ports, '', '', 'ptr %p, i64 %n, i64 %x')
     yield 'a call with another parameter than the header declares is refused', 'parameters' in said, said
     yield 'the known module is retargeted', is_retargeted(ports), ''
+    for added, is_one in (('', False), (MAIN, True), (MAIN * 2, False)):
+        yield f'a program with {added.count(MAIN)} main', is_retargeted(ports, added, True) == is_one, ''
     for added in ADDED:
         yield f'a module with `{added.strip()}` besides is not retargeted', not is_retargeted(ports, added), ''

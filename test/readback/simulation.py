@@ -8,8 +8,8 @@ import re
 from pycparser import c_ast
 
 from c_side import Evaluator, c_type
-from module_side import Wrong, size_align
-from terms import (UNDEF, Term, atom, binary, const, equal, field, is_const, ite, less, negated, not_zero, raw, same, sext, shift, struct,
+from module_side import FRACTIONS, Wrong, size_align
+from terms import (UNDEF, Term, atom, binary, const, equal, field, fraction_less, is_const, ite, less, negated, not_zero, raw, same, sext, shift, struct,
                    trunc, zext)
 
 SUMS = ('add', 'sub', 'mul', 'and', 'or', 'xor', 'udiv', 'urem')
@@ -17,12 +17,12 @@ COMPARED = {
     'eq': equal, 'ne': lambda x, y: negated(equal(x, y)), 'ult': lambda x, y: less(x, y, False), 'ugt': lambda x, y: less(y, x, False),
     'ule': lambda x, y: negated(less(y, x, False)), 'uge': lambda x, y: negated(less(x, y, False)), 'slt': lambda x, y: less(x, y, True),
     'sgt': lambda x, y: less(y, x, True), 'sle': lambda x, y: negated(less(y, x, True)), 'sge': lambda x, y: negated(less(x, y, True))}
-HELPERS = re.compile(r'llvm\.(umin|umax|smin|smax|usub\.sat|uadd\.sat|cttz|bswap)\.i(\d+)$')
+HELPERS = re.compile(r'llvm\.(umin|umax|smin|smax|usub\.sat|uadd\.sat|cttz|ctlz|abs|bswap)\.i(\d+)$')
 
 
 def container(bits):
     """The bits of the C type that holds this number of bits."""
-    return next(width for width in (8, 16, 32, 64) if bits <= width)
+    return next(width for width in (8, 16, 32, 64, 128) if bits <= width)
 
 
 def wide(term):
@@ -78,6 +78,7 @@ class Simulation(Evaluator):
         self.variable_of = {name: variable for variable, name in self.register_of.items()}
         self.label_of = {block: f'L{place}' for place, block in enumerate(function.blocks)}
         self.slots = {line.result: size_align(line.args[0])[0] for block in function.blocks.values() for line in block if line.op == 'alloca'}
+        self.aligns = {line.result: line.args[1] for block in function.blocks.values() for line in block if line.op == 'alloca'}
         self.read_across, self.ends, self.todo, self.done = set(), [], [], set()
 
     # ---- the module's side
@@ -90,6 +91,8 @@ class Simulation(Evaluator):
             return struct([self.ll(s, value, part) for part in type_of[1:]]) if isinstance(type_of, tuple) else const(value[1], type_of)
         if kind == '@':
             return binary('add', atom('@' + self.module.c_name(value[1]), 64), const(value[2], 64))
+        if kind in ('add', 'sub', 'xor'):
+            return binary(kind, *[self.ll(s, part, value[1]) for part in value[2:]])
         return UNDEF if kind == 'undef' else struct([self.ll(s, part, part_type) for part_type, part in value[1]])
 
     def number(self, s, value, type_of):
@@ -105,7 +108,14 @@ class Simulation(Evaluator):
         if op in ('store', 'call'):
             (self.step_store if op == 'store' else self.step_call)(s, line, *a)
             return
-        if op in SUMS:
+        if op in FRACTIONS or op == 'fneg':
+            made = raw(op, 64, *[self.number(s, value, a[0]) for value in a[1:]])
+        elif op == 'fcmp':
+            made = self.of_fractions_l(a[0], self.number(s, a[2], a[1]), self.number(s, a[3], a[1]))
+        elif op in ('uitofp', 'bitcast'):
+            value = self.number(s, a[1], a[0])
+            made = raw(op, 64, zext(value, 64)) if op == 'uitofp' else value
+        elif op in SUMS:
             made = binary(op, self.number(s, a[1], a[0]), self.number(s, a[2], a[0]))
         elif op in ('shl', 'lshr', 'ashr'):
             made = self.shifted_l(op, self.number(s, a[1], a[0]), self.number(s, a[2], a[0]))
@@ -123,6 +133,24 @@ class Simulation(Evaluator):
         else:
             made = getattr(self, 'step_' + op)(s, line, *a)
         s.l[line.result] = made
+
+    @staticmethod
+    def of_fractions_l(kind, a, b):
+        """A comparison of fractions. `o` is 0 where one is no number, `u` 1: it is 0 where the opposite `o` is 1."""
+        def is_number(term):
+            return raw('feq', 1, term, term)
+        signs = {'lt': '<', 'gt': '>', 'le': '<=', 'ge': '>='}
+        if kind in ('oeq', 'une'):
+            found = raw('feq', 1, *sorted((a, b), key=lambda term: term.id))
+            return found if kind == 'oeq' else negated(found)
+        if kind == 'ord':
+            return binary('and', is_number(a), is_number(b))
+        if kind[1:] not in signs:
+            raise Wrong(f'the module: a comparison {kind}')
+        if kind[0] == 'o':
+            return fraction_less(signs[kind[1:]], a, b)
+        opposite = {'lt': '>=', 'gt': '<=', 'le': '>', 'ge': '<'}
+        return negated(fraction_less(opposite[kind[1:]], a, b))
 
     @staticmethod
     def shifted_l(op, value, count):
@@ -147,8 +175,8 @@ class Simulation(Evaluator):
         return binary('add', base, offset)
 
     def step_alloca(self, _, line, type_of, align):
-        if align > 8 or size_align(type_of)[1] > 8:
-            raise Wrong('the module: memory aligned to more than 8 bytes')
+        if align > 16:
+            raise Wrong('the module: memory aligned to more than 16 bytes')
         return atom('&' + line.result, 64)
 
     def step_extractvalue(self, s, _, type_of, whole, place):
@@ -170,12 +198,14 @@ class Simulation(Evaluator):
         values = [self.ll(s, value, arg_type) for arg_type, value in args]
         helper = HELPERS.match(name)
         if helper:
-            count = 1 if helper[1] in ('cttz', 'bswap') else 2
+            count = 1 if helper[1] in ('cttz', 'ctlz', 'abs', 'bswap') else 2
             numbers = [self.number(s, value, arg_type) for arg_type, value in args[:count]]
             s.l[line.result] = raw(helper[1].replace('.', '_'), type_of, *numbers)
         elif name.startswith(('llvm.memcpy.p0', 'llvm.memmove.p0', 'llvm.memset.p0')) and values[3] is const(0, 1):
             if values[2] is not const(0, 64):
                 s.effect_l(name.split('.')[1], *values[:3])
+        elif name == 'llvm.arithmetic.fence.f64':
+            s.l[line.result] = values[0]
         elif name.startswith('llvm.') and name != 'llvm.trap':
             raise Wrong(f'the module: {name}')
         elif name != 'llvm.trap':
@@ -185,10 +215,11 @@ class Simulation(Evaluator):
 
     # ---- C's side
 
-    def slot(self, name):
+    def slot(self, name, align=8):
+        """Memory of the call. One that is aligned to 16 has 15 bytes more, of which the first place so aligned is taken."""
         register = self.register_of.get(name)
-        size = int(re.match(r'nd_room_(\d+)$', self.c.types[name][1])[1])
-        if size < self.slots.get(register, size + 1):
+        size = int(re.match(r'nd_room_(\d+)$', self.c.types[name][1])[1]) - (align - 1 if align > 8 else 0)
+        if size < self.slots.get(register, size + 1) or align < self.aligns[register]:
             raise Wrong(f'the room {name}')
         return atom('&' + register, 64)
 

@@ -218,6 +218,12 @@ def less(a, b, is_signed):
     return raw('slt' if is_signed else 'ult', 1, a, b)
 
 
+def fraction_less(op, a, b):
+    """`<`, `>`, `<=` or `>=` of fractions."""
+    a, b = (b, a) if op[0] == '>' else (a, b)
+    return raw('fle' if op[1:] else 'flt', 1, a, b)
+
+
 def ite(condition, a, b):
     """`a` where the bit is 1, else `b`; what one leaves open the other decides."""
     if b is UNDEF or a is b:

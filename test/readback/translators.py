@@ -9,7 +9,7 @@ PORTS = pathlib.Path(__file__).resolve().parents[2] / 'ports'
 def loaded(file='', old='', new=''):
     """What translate.py and retarget.py define, where one place of a file says another thing."""
     made = {}
-    for name in ('module_text', 'c_text', 'translate', 'retarget'):
+    for name in ('module_text', 'c_helpers', 'c_text', 'translate', 'retarget'):
         text = (PORTS / f'{name}.py').read_text(encoding='utf-8')
         if file == f'{name}.py':
             if text.count(old) != 1:
@@ -18,5 +18,5 @@ def loaded(file='', old='', new=''):
         made[name] = sys.modules[name] = types.ModuleType(name)
         made[name].__file__ = str(PORTS / f'{name}.py')
         exec(compile(text, f'{name}.py', 'exec'), vars(made[name]))
-    return types.SimpleNamespace(translated=made['translate'].translated, retargeted=made['retarget'].retargeted,
-                                 with_numbers_kept=made['retarget'].with_numbers_kept, Unknown=made['module_text'].Unknown)
+    taken = {'translate': ('translated', 'translated_program'), 'retarget': ('retargeted', 'with_numbers_kept', 'PROCESSORS'), 'module_text': ('Unknown',)}
+    return types.SimpleNamespace(**{name: getattr(made[module], name) for module, names in taken.items() for name in names})

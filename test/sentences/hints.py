@@ -1,5 +1,6 @@
 """What each hint states of refused bytes, and whether it is true of them: by docs/EXPLAIN.md, and by the layouts of the NFC Forum for the memory of tags
-(Type 1 to Type 5 Tag). Of the tags that tags.py lays out it is known which bytes are the message: the command of a hint has to give these."""
+(Type 1 to Type 5 Tag). Of the tags that tags.py lays out it is known which bytes are the message: the place and the length of a hint have to give these."""
+import base64
 import re
 
 import reading
@@ -41,15 +42,10 @@ def attributes(given):
     return number_at(given, 11, 3) if is_block else None
 
 
-def is_cut(at, length, after, count):
-    """Whether the command takes these bytes: `tail -c +N` begins with byte N, counted from 1."""
-    return after == at + 1 and count == length
-
-
-def in_block(scene, limits, length, at, *command):
+def in_block(scene, limits, length, at):
     given = scene.given
     is_block = any(message_block(given, begins) == (at, length) for begins in blocks_begin(given))
-    return scene.at == 0 and is_block and is_cut(at, length, *command) and given[at] & 0x80
+    return scene.at == 0 and is_block and given[at] & 0x80
 
 
 def interrupted(scene, limits, length, at):
@@ -60,17 +56,17 @@ def interrupted(scene, limits, length, at):
     return scene.at == 0 and (length == 0 or given[at:at + 1] >= b'\x80') and (has_control or is_dynamic)
 
 
-def after_attributes(scene, limits, length, at, *command):
-    return scene.at == 0 and at == 16 and attributes(scene.given) == length and scene.given[9] == 0 and is_cut(at, length, *command)
+def after_attributes(scene, limits, length, at):
+    return scene.at == 0 and at == 16 and attributes(scene.given) == length and scene.given[9] == 0
 
 
 def unfinished(scene, limits):
     return scene.at == 0 and attributes(scene.given) is not None and scene.given[9] != 0
 
 
-def in_file(scene, limits, length, at, *command):
+def in_file(scene, limits, length, at):
     given = scene.given
-    return scene.at == 0 and at in (2, 4) and 0 < length == number_at(given, 0, at) <= len(given) - at and given[at] & 0x80 and is_cut(at, length, *command)
+    return scene.at == 0 and at in (2, 4) and 0 < length == number_at(given, 0, at) <= len(given) - at and given[at] & 0x80
 
 
 def empty_tag(scene, limits):
@@ -101,12 +97,44 @@ def is_text(pattern):
     return lambda scene, limits: scene.at == 0 and re.match(pattern, scene.given) is not None
 
 
-COMMAND = r'`tail -c \+(\d+) \| head -c (\d+)`\.'
+def is_digits(scene, limits):
+    """Digits, or a list of a program, which is ASCII: an even number of hexadecimal digits, or numbers up to 255."""
+    text = scene.given
+    for first, last in ((b'{', b'}'), (b'[', b']')):
+        if first in text and re.fullmatch(rb'[\t\n\r -~]*', text):
+            text = text.split(first, 1)[1].split(last, 1)[0]
+            break
+    words = re.split(rb'[\t\n\r ,:-]', text)
+    digits = b''.join(re.sub(rb'\A0[xX]', b'', word) for word in words)
+    is_hex = re.fullmatch(rb'([0-9A-Fa-f]{2})+', digits) is not None
+    is_decimal = all(re.fullmatch(rb'[0-9]{0,3}', word) and int(word or b'0') < 256 for word in words) and digits != b''
+    return scene.at == 0 and (is_hex or is_decimal)
+
+
+def is_suppressed(scene, limits):
+    """Lines of pairs of digits, or of `*` only, but the first has pairs."""
+    pair, stars = rb'[\t\r ,:-]*([0-9A-Fa-f]{2}([\t\r ,:-]+|\Z))', rb'\*[\t\r ,:-]*'
+    first, *others = scene.given.split(b'\n')
+    is_star = [re.fullmatch(stars, line) is not None for line in others]
+    are_lines = all(star or re.fullmatch(rb'[\t\r ,:-]*|(%b)+' % pair, line) for star, line in zip(is_star, others))
+    return scene.at == 0 and re.fullmatch(rb'(%b)+' % pair, first) is not None and any(is_star) and are_lines
+
+
+def is_base64(scene, limits):
+    """What Python's reader takes without a surplus, as long as only line feeds separate it; it takes bits that are left over as well."""
+    text = scene.given.replace(b'\n', b'')
+    try:
+        octets = base64.b64decode(text, validate=True)
+    except ValueError:
+        return False
+    return scene.at == 0 and base64.b64encode(octets) == text
+
+
 # Each hint: its name, its words, and what says whether it is true.
 HINTS = [(name, re.compile(words), is_true) for name, words, is_true in (
-    ('block', rf'A message of length (\d+) may begin at byte (\d+), in an NDEF TLV of a tag: {COMMAND}', in_block),
-    ('attributes', rf'A message of length (\d+) may begin at byte (\d+), after the attribute block of a Type 3 Tag: {COMMAND}', after_attributes),
-    ('file', rf'A message of length (\d+) may begin at byte (\d+), after its length, as in a file of a Type 4 Tag: {COMMAND}', in_file),
+    ('block', r'A message of length (\d+) may begin at byte (\d+), in an NDEF TLV of a tag\.', in_block),
+    ('attributes', r'A message of length (\d+) may begin at byte (\d+), after the attribute block of a Type 3 Tag\.', after_attributes),
+    ('file', r'A message of length (\d+) may begin at byte (\d+), after its length, as in a file of a Type 4 Tag\.', in_file),
     ('interrupted', r'A message of length (\d+) may begin at byte (\d+), in an NDEF TLV of a tag, but reserved areas may lie before its end: '
                     r'use a reader that skips them\.', interrupted),
     ('unfinished', r'This Type 3 Tag is being written: its attribute block says that the message is not whole yet\.', unfinished),
@@ -115,13 +143,15 @@ HINTS = [(name, re.compile(words), is_true) for name, words, is_true in (
     ('terminator', r'FE \(hexadecimal\) ends the TLV blocks of a tag\.', terminator),
     ('code', r'68 \(hexadecimal\) is the letter h: was the identifier code left out\?', code_left_out),
     ('standard', r'The standard profile reads this \(`--profile standard`, in C NDEF_STANDARD\)\.', standard_profile),
-    ('digits', r'These are hexadecimal digits, not the bytes that they spell; `--hex` reads them\.', is_text(rb'[0-9A-Fa-fXx\s:,-]+\Z')),
-    ('xxd', r'This is a dump by xxd, not the bytes that it spells; `--hex` reads it\.', is_text(rb'[0-9a-f]{8,}: ')),
-    ('hexdump', r'This is a dump by hexdump, not the bytes that it spells; `--hex` reads it\.', is_text(rb'[0-9a-f]{8,}  .*')),
-    ('words', r'This is a dump by od or hexdump, not the bytes; `--hex` reads those of `hexdump -C` and xxd\.', is_text(rb'[0-9a-f]{7} ')),
-    ('flipper', r"This is a file of a Flipper; `--hex` reads what `sed -n 's/\^Page \[0-9\]\*: //p'` leaves of it\.", is_text(rb'Filetype: Flipper')),
+    ('digits', r'These are digits, not the bytes that they spell; `--hex` reads them\.', is_digits),
+    ('xxd', r'This is a dump by xxd, not the bytes that it spells; `--hex` reads it\.', is_text(rb'[0-9A-Fa-f]{8,}: ')),
+    ('hexdump', r'This is a dump by hexdump, not the bytes that it spells; `--hex` reads it\.', is_text(rb'[0-9A-Fa-f]{8,}  .*')),
+    ('od', r'This is a dump by od, not the bytes that it spells; `--hex` reads it\.', is_text(rb'0[0-9A-Fa-f]{5,6} ')),
+    ('suppressed', r'This is a dump by od with `\*` for repeated lines, whose number it doesn\'t say; `od -v` writes them\.', is_suppressed),
+    ('words', r'This is a dump in words, not bytes; `--hex` reads those of `hexdump -C` and `od -tx1`\.', is_text(rb'0[0-9A-Fa-f]{5,6} ')),
+    ('flipper', r'This is a file of a Flipper, not the bytes that it spells; `--hex` reads it\.', is_text(rb'Filetype: Flipper')),
     ('proxmark', r'This is what a Proxmark prints, not the bytes; `--hex` reads the digits of its blocks\.', is_text(rb'\[(=|\+|usb)\]')),
-    ('base64', r'This may be base64, not the bytes that it spells; `base64 -d` gives them\.', is_text(rb'[0-9A-Za-z+/=\r\n]+\Z')),
+    ('base64', r'This may be base64, not the bytes that it spells; `base64 -d` gives them\.', is_base64),
 )]
 
 
@@ -142,16 +172,16 @@ def is_whole_file(given):
 
 
 def fault_on_tag(hint, tag):
-    """What is wrong with a hint on a tag of tags.py: it isn't the one that is wanted, its command gives other bytes than the message, or it says that a
-    tag is empty which isn't. None where nothing is. Of bytes that end within the message the command gives those that there are."""
+    """What is wrong with a hint on a tag of tags.py: it isn't the one that is wanted, the bytes that it names are others than the message, or it says that
+    a tag is empty which isn't. None where nothing is. Of bytes that end within the message it names those that there are."""
     name, numbers = named(hint) if hint else (None, [])
     if tag.wanted and name != tag.wanted:
         return f'{name} instead of {tag.wanted}'
     if name in ('block', 'attributes', 'file'):
-        length, at, after, count = numbers
-        cut = tag.given[after - 1:after - 1 + count]
-        if (at, count, cut) != (after - 1, length, tag.message[:len(cut)]) or length != len(tag.message):
-            return 'the command gives other bytes than the message'
+        length, at = numbers
+        cut = tag.given[at:at + length]
+        if at > len(tag.given) or cut != tag.message[:len(cut)] or length != len(tag.message):
+            return 'the bytes there are others than the message'
     return 'the tag is not empty' if name == 'empty' and tag.message else None
 
 

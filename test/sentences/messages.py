@@ -167,7 +167,7 @@ class Maker:
         """The message as a text that spells it, by one program or another."""
         rows = [octets[at:at + 16] for at in range(0, len(octets), 16)]
         pages = [octets[at:at + 4] for at in range(0, len(octets), 4)]
-        form = self.random.randrange(8)
+        form = self.random.randrange(9)
         if form == 0:
             return octets.hex(self.pick((' ', '\n'))).encode()
         if form == 1:
@@ -178,6 +178,8 @@ class Maker:
             return ''.join(f'{16 * at:08x}  {row.hex(" ")}  |{"." * len(row)}|\n' for at, row in enumerate(rows)).encode()
         if form == 4:
             return ''.join(f'{16 * at:07o} {row.hex(" ")}\n' for at, row in enumerate(rows)).encode()
+        if form == 8:
+            return '\n'.join([f' {rows[0].hex(" ")}', '*', *(f' {row.hex(" ")}' for row in rows[1:]), '']).encode()
         if form == 5:
             return ('Filetype: Flipper NFC device\nVersion: 4\n' + ''.join(f'Page {at}: {page.hex(" ")}\n' for at, page in enumerate(pages))).encode()
         if form == 6:

@@ -228,7 +228,7 @@ class Oracle:
              8: 'This is a dump by hexdump, not the bytes that it spells', 9: 'This dump by od or hexdump may show numbers of two bytes, not bytes',
              10: 'This is a file of a Flipper, not the bytes', 11: 'This is what a Proxmark prints, not the bytes',
              12: 'This may be base64, not the bytes that it spells', 13: '68 (hexadecimal) is the letter h', 14: 'The standard profile reads this',
-             16: 'This Type 3 Tag is being written'}
+             16: 'This Type 3 Tag is being written', 17: 'This is a dump by od, not the bytes that it spells'}
 
     def text_of(self, found, given):
         if found.hint in self.AROUND and not found.length:
