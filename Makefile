@@ -33,9 +33,8 @@
 # SSE4.1 long texts are checked faster. libndef.a holds both, and chooses where a program is loaded (packaging/c/join_archives); so
 # does what is linked of it, as the Python module. The shared library is two files, of which the loader takes the one for its
 # processor (glibc-hwcaps). The C file of dist/ isn't faster for x86-64-v2: it is compiled once, for the archive, the shared library
-# and the Python module, and libndef-v2.a is the same archive. The commands choose where they start (packaging/build/command); those
-# of dist/ do so where the release has the code for x86-64-v2. libsimbegyor-ndef.a is the same as libndef.a; nfc-tools has another
-# library of the name ndef.
+# and the Python module, and libndef-v2.a is the same archive. libsimbegyor-ndef.a is the same as libndef.a; nfc-tools has another library
+# of the name ndef.
 
 PREFIX ?= /usr/local
 LIBDIR ?= $(PREFIX)/lib
@@ -169,8 +168,8 @@ every_source := crates.txt $(call sources,$(notdir $(wildcard crates/*)))
 crates/ndef_commands/out/ndef_commands: $(every_source)
 	./ndef --prove encode </dev/null
 
-# The same with the code for two processors, over the crates that the line above proved.
-out/commands/ndef: crates/ndef_commands/out/ndef_commands packaging/build/command packaging/c/choose_main.c packaging/c/has_v2.h
+# The same for any x86-64, over the crates that the line above proved.
+out/commands/ndef: crates/ndef_commands/out/ndef_commands packaging/build/command
 	packaging/build/command ndef_commands $@
 
 crates/ndef_c/out/libndef_c.a: crates.txt $(call sources,$(below_c))

@@ -1,7 +1,6 @@
 // node page.mjs WEB FOLDER: measures for how long the web page, which `make web` makes in the folder WEB, holds up the browser with messages of
-// FOLDER, whose digits are typed at once in a headless Chromium. Prints 'task NAME NANOSECONDS', the time of the longest of the page's
-// tasks, 'layout NAME NANOSECONDS', that of the browser's longest layout between them, and 'all NAME NANOSECONDS', that until all of
-// the message is there. Times are those of the clock, the least of three.
+// FOLDER, whose digits are typed at once in a headless Chromium. Prints 'task NAME NANOSECONDS', the time of the page's task,
+// 'layout NAME NANOSECONDS', that of the browser's layout after it, and 'all NAME NANOSECONDS', that until all of the message is there. Times are those of the clock, the least of three.
 import { spawn } from "node:child_process";
 import { mkdtempSync, readFileSync, rmSync } from "node:fs";
 import { createServer } from "node:http";
@@ -16,29 +15,20 @@ const messages = Object.fromEntries(NAMES.map((name) => [name, readFileSync(join
 // Runs in the page.
 async function measure(messages, runs) {
     const find = (id) => document.getElementById(id), wait = (pause) => new Promise((done) => { setTimeout(done, pause); });
-    const later = window.setTimeout.bind(window), nextFrame = () => new Promise((done) => { requestAnimationFrame(done); });
-    let task = 0, layout = 0;
+    const nextFrame = () => new Promise((done) => { requestAnimationFrame(done); });
     const time = (call) => { const begun = performance.now(); call(); return performance.now() - begun; };
-    const timed = (call) => { task = Math.max(task, time(call)); };
-    // The page puts its slices off to tasks of their own by this.
-    window.setTimeout = (call, ...given) => later(() => timed(call), ...given);
     const enter = (hex) => {
         find("records").value = 65535;
         find("hex").value = hex;
         find("hex").dispatchEvent(new Event("input"));
     };
-    // What a message takes from its digits on, until a frame has all of it. In each frame the browser would do the layout anyway.
+    // What a message takes from its digits on, until a frame has all of it. In that frame the browser would do the layout anyway.
     const show = async (hex) => {
         enter("");
         await wait(50);
-        task = layout = 0;
-        const begun = performance.now();
-        timed(() => enter(hex));
-        for (let isThere = false; !isThere;) {
-            await nextFrame();
-            isThere = find("record-part").ariaBusy === "false";
-            layout = Math.max(layout, time(() => document.body.getBoundingClientRect()));
-        }
+        const begun = performance.now(), task = time(() => enter(hex));
+        await nextFrame();
+        const layout = time(() => document.body.getBoundingClientRect());
         return { task, layout, all: performance.now() - begun };
     };
     for (let tries = 0; tries < 200 && !find("verdict").textContent; tries++) {

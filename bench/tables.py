@@ -138,7 +138,7 @@ class Results:
             times = [self.time('page', call, 'records-%d' % count) for call in ('task', 'layout', 'all')]
             if None not in times:
                 rows.append(['%d records' % count, *map(shown, times)])
-        return table(['a message of', 'the longest task', 'the longest layout', 'until all is there'], rows)
+        return table(['a message of', 'the task', 'the layout', 'until all is there'], rows)
 
     def commands(self):
         rows = [['`ndef %s`' % word, *(shown(self.time('commands', word, name)) for name in ('hello', 'wide-1M'))] for word in ('check', 'show')]

@@ -256,7 +256,7 @@ inline std::string interrupted(ndef_size place) {
 } // namespace detail
 
 inline std::string found_hint::text() const {
-    switch (static_cast<unsigned>(kind)) { // a header of release 1.0 has no names for 15 and 16
+    switch (static_cast<unsigned>(kind)) { // a header of release 1.0 has no names for 15 to 17
         case NDEF_HINT_TLV: return detail::in_tag(*this, ", in an NDEF TLV of a tag");
         case NDEF_HINT_ATTRIBUTES: return detail::in_tag(*this, ", after the attribute block of a Type 3 Tag");
         case NDEF_HINT_FILE: return detail::in_tag(*this, ", after its length, as in a file of a Type 4 Tag");
@@ -279,6 +279,7 @@ inline std::string found_hint::text() const {
         case 15: return detail::interrupted(place); // NDEF_HINT_INTERRUPTED
         case 16: // NDEF_HINT_UNFINISHED
             return "This Type 3 Tag is being written: its attribute block says that the message is not whole yet.";
+        case 17: return "This is a dump by od, not the bytes that it spells: decode its digits first."; // NDEF_HINT_OD
     }
     return {};
 }
