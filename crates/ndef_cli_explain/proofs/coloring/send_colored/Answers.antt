@@ -1,10 +1,5 @@
-use Rattle.std.proofs.Common.{◌≡◌, ◌∙◌, ◌++◌, ◌∷◌, [], ap, subst, sym}
-use Rattle.std.specs.Borrow.{Bor}
-use Rattle.std.specs.Option.{option_map_or}
-use Rattle.ndef_cli.specs.declared.status.Status.TheVariants.{Clean}
 use Rattle.ndef_message.specs.States.{sink_state}
-use Rattle.ndef_cli_explain.specs.Reporting.{SendsOut}
-use Rattle.ndef_cli_explain.proofs.Colored.{colored_lines, last_line, next_line}
+use Rattle.ndef_cli_explain.proofs.Colored.{last_line, next_line}
 use Rattle.ndef_cli_explain.proofs.coloring.send_colored.Goals as goal
 
 pub loop-rest-preserved : goal.loop-rest-preserved

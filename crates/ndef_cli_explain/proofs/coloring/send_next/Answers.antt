@@ -1,4 +1,4 @@
-use Rattle.std.proofs.Common.{Err, Ok, subst, sym}
+use Rattle.std.proofs.Common.{subst}
 use Rattle.ndef_message.specs.States.{sink_state}
 use Rattle.ndef_cli.specs.declared.status.Status.TheVariants.{Clean}
 use Rattle.ndef_cli_explain.specs.Reporting.{SendsOut}
