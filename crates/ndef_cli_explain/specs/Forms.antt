@@ -1,5 +1,6 @@
 -- The two forms in which an input is explained.
 use Rattle.std.specs.Prelude.{◌&&◌, not, Bool, true, false, Option, Some, None, option_map}
+use Rattle.std.specs.Borrow.{Bor}
 use Rattle.ndef_cli.specs.Quoting.{Text}
 use Rattle.ndef_cli_explain.specs.Shell.{Origin, origin_of}
 use Rattle.ndef_cli_explain.specs.declared.style.Look.{Look}
@@ -13,10 +14,14 @@ pub data Form : Type 0 where
   lines : Shown → Form
   objects : (file : Option Text) → Form
 
+-- the name of an input, if inputs are named
+abbrev pub name_of : Option (Bor Text) → Option Text
+name_of file = option_map (λ name. name.now) file
+
 -- the form of a value of the program
 abbrev pub style_form : Style → Form
 style_form (Lines shown) = lines shown
-style_form (Objects file) = objects (option_map (λ name. name.now) file)
+style_form (Objects file) = objects (name_of file)
 
 -- how an input is explained: in this form, in colour or not, and where it comes from
 pub record LookValues : Type 0 where

@@ -44,7 +44,7 @@ json_line value = compact_text value ++ codes "\n"
 
 -- RFC 8259, objects and arrays: a comma where one is due, and this text; whether a comma is due after it
 abbrev pub next_text : Output → Text → (later : Bool) → Output
-next_text out text later = record { text = out.text ++ (comma_if out.later ++ text); later = later }
+next_text out text later = record out { text = out.text ++ (comma_if out.later ++ text); later = later }
 
 -- a value
 unfoldable pub with_value : Output → Data → Output
@@ -64,11 +64,11 @@ with_begin out bracket = next_text out bracket false
 
 -- the end of one
 unfoldable pub with_end : Output → (bracket : Text) → Output
-with_end out bracket = record { text = out.text ++ bracket; later = true }
+with_end out bracket = record out { text = out.text ++ bracket; later = true }
 
 -- the beginning of the object of a line
 unfoldable pub with_line : Output → Output
-with_line out = record { text = out.text ++ codes "{"; later = false }
+with_line out = record out { text = out.text ++ codes "{"; later = false }
 
 -- members
 abbrev pub with_pairs : Output → List Pair → Output
@@ -82,7 +82,7 @@ with_values out values = fold with_value out values
 
 -- lines
 unfoldable pub with_text : Output → Text → Output
-with_text out text = record { text = out.text ++ text; later = out.later }
+with_text out text = record out { text = out.text ++ text }
 
 -- these lines, or these values of an array
 abbrev pub with_either : Form → Output → Text → List Data → Output

@@ -13,6 +13,7 @@ use Rattle.ndef_cli_explain.specs.Forms.{Form, shown_by}
 use Rattle.ndef_cli_explain.specs.OfEach.{AreOfEach}
 use Rattle.ndef_cli_explain.specs.Outputs.{Pair, array_of, number_value, object_of, with_either, with_pair}
 use Rattle.ndef_cli_explain.specs.Wordings.{first_wording}
+use Rattle.ndef_cli_explain.specs.declared.fields.Parsed.{Parsed}
 use Rattle.ndef_cli_explain.specs.declared.output.Output.{Output}
 use Rattle.ndef_cli_explain.specs.declared.style.Shown.{Shown}
 
@@ -21,6 +22,10 @@ pub record Joined : Type 0 where
   pub number : ℕ
   pub octets : List ℕ
   pub fields : List Field
+
+-- these values of the program
+abbrev pub joined : (number : ℕ) → Parsed → Joined
+joined number payload = record { number = number; octets = payload.bytes.now; fields = payload.fields }
 
 -- NDEF 1.0, chunked payloads: a payload with its fields
 abbrev pub IsJoined : (number : ℕ) → Item → Joined → Type 0

@@ -12,16 +12,13 @@ use crate::recovery::push_recovery;
 use crate::recovery_place::{Recovery, message_at, past};
 use crate::refusals::{push_goes_on, push_sound};
 use crate::refused_record::{RefusedRecord, records_in, refused_record};
-use crate::style::Style;
-use ndef_value::{Limits, NoMemory, Refusal};
-use std::alloc::Global;
+use crate::style::Look;
+use ndef_value::{NoMemory, Refusal};
 
 /// Appends the output past a refused record, where its end is known.
 fn push_past_end(
-    alloc: Global,
     out: &mut Output,
-    style: Style<'_>,
-    limits: Limits,
+    look: &Look<'_>,
     input: &[u8],
     from: Recovery,
     found: RefusedRecord,
@@ -29,15 +26,15 @@ fn push_past_end(
     requires counts { AreCounts from }
     requires within { IfSome found.end (λ end. from.at + end ≤ length input.now) }
     requires past { IfSome found.end (λ end. found.before + 1 < end) }
-    ensures { OnOk result (Appends (IsPastEnd (style_form style.entry) limits input.now from found found.end)
-        out.old.text out.new.text) }
+    ensures { OnOk result (Appends (IsPastEnd (style_form look.now.style) look.now.source.limits input.now from found
+        found.end) out.old.text out.new.text) }
 {
     match found.end {
         None => Ok(()),
         Some(end) => {
-            push_goes_on(alloc, out, style, from, found.before, end)?;
-            let last = push_recovery(alloc, out, style, limits, input, past(from, found, end))?;
-            push_sound(alloc, out, style, last)?;
+            push_goes_on(out, look.style, from, found.before, end)?;
+            let last = push_recovery(out, look, input, past(from, found, end))?;
+            push_sound(out, look.style, last)?;
             Ok(())
         }
     }
@@ -45,43 +42,37 @@ fn push_past_end(
 
 /// Appends the output past the first refusal, after the messages that were explained.
 fn push_past_refusal(
-    alloc: Global,
     out: &mut Output,
-    style: Style<'_>,
-    limits: Limits,
+    look: &Look<'_>,
     input: &[u8],
     progress: &ExplainedMessages<'_>,
     refusal: Refusal,
 ) -> Result<(), NoMemory>
     requires number { progress.now.number ≤ progress.now.at + 1 }
     requires within { progress.now.at + refusal.at ≤ length input.now }
-    ensures { OnOk result (Appends (IsPastRefusal (style_form style.entry) limits input.now
+    ensures { OnOk result (Appends (IsPastRefusal (style_form look.now.style) look.now.source.limits input.now
         progress.now.number progress.now.at refusal) out.old.text out.new.text) }
 {
     let (reported, rest) = cut(input, progress.at as usize);
     let from = message_at(progress.number, progress.at, records_in(reported) as u64);
     let found = refused_record(rest, refusal);
-    push_past_end(alloc, out, style, limits, input, from, found)
+    push_past_end(out, look, input, from, found)
 }
 
 /// Appends the output past the place where the messages stop.
 pub(crate) fn push_past_stop(
-    alloc: Global,
     out: &mut Output,
-    style: Style<'_>,
-    limits: Limits,
+    look: &Look<'_>,
     input: &[u8],
     progress: &ExplainedMessages<'_>,
 ) -> Result<(), NoMemory>
     requires number { progress.now.number ≤ progress.now.at + 1 }
     requires within { IsStopWithin progress.now.at (length input.now) progress.now.stop }
-    ensures { OnOk result (Appends (IsPastStop (style_form style.entry) limits input.now progress.now.number
-        progress.now.at progress.now.stop) out.old.text out.new.text) }
+    ensures { OnOk result (Appends (IsPastStop (style_form look.now.style) look.now.source.limits input.now
+        progress.now.number progress.now.at progress.now.stop) out.old.text out.new.text) }
 {
     match progress.stop {
         Stop::End => Ok(()),
-        Stop::Refused(refusal) => {
-            push_past_refusal(alloc, out, style, limits, input, progress, refusal)
-        }
+        Stop::Refused(refusal) => push_past_refusal(out, look, input, progress, refusal),
     }
 }

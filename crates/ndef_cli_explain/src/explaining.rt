@@ -8,16 +8,14 @@ ghost use Rattle.ndef_cli_explain.specs.Shell.{origin_of};
 ghost use Rattle.ndef_cli_explain.specs.declared.explaining.Stop.TheVariants.{Refused};
 
 use crate::advice::{advice_of, hint_for};
-use crate::fields::cut;
+use crate::fields::{Parsed, cut};
 use crate::output::Output;
 use crate::recovery_place::message_at;
 use crate::refusals::{fields_of_front, push_refused};
 use crate::said_refusal::said_of;
-use crate::shell::Source;
-use crate::style::Style;
+use crate::style::Look;
 use ndef_fields::{FieldReport, fields, fields_are_exact};
 use ndef_value::{Limits, NoMemory, Refusal};
-use std::alloc::Global;
 
 /// The point at which the messages of an input stop.
 #[derive(Clone, Copy)]
@@ -54,42 +52,38 @@ pub(crate) fn next_message(bytes: &[u8], limits: Limits) -> Result<FieldReport<'
 
 /// Appends the output for a refusal after the messages that were explained.
 fn push_first_refusal(
-    alloc: Global,
     out: &mut Output,
-    style: Style<'_>,
-    source: &Source<'_>,
+    look: &Look<'_>,
     progress: &ExplainedMessages<'_>,
     refusal: Refusal,
 ) -> Result<(), NoMemory>
     requires { FitsStop progress.now.at progress.now.rest.now (Refused refusal) }
-    ensures { OnOk result (Appends (IsStopText (style_form style.entry) (origin_of source.now) progress.now.number
-        progress.now.at progress.now.rest.now (Refused refusal)) out.old.text out.new.text) }
+    ensures { OnOk result (Appends (IsStopText (style_form look.now.style) (origin_of look.now.source)
+        progress.now.number progress.now.at progress.now.rest.now (Refused refusal)) out.old.text out.new.text) }
 {
-    let (at, bytes) = (progress.at, progress.rest);
-    let front = cut(bytes, refusal.at as usize).0;
-    let before = fields_of_front(at, front);
-    let hint = hint_for(bytes, source.limits, refusal);
-    let advice = advice_of(alloc, source, at, bytes.len() as u64, hint)?;
-    let said = said_of(bytes, bytes, refusal, advice);
+    let (at, rest, source) = (progress.at, progress.rest, &look.source);
+    let hint = hint_for(rest, source.limits, refusal);
+    let advice = advice_of(out.alloc, source, at, rest.len() as u64, hint)?;
+    let said = said_of(rest, rest, refusal, advice);
     let from = message_at(progress.number, at, 0);
-    push_refused(alloc, out, style, from, front, before, &said)?;
+    let bytes = cut(rest, refusal.at as usize).0;
+    let fields = fields_of_front(at, bytes);
+    push_refused(out, look.style, from, Parsed { bytes, fields }, &said)?;
     Ok(())
 }
 
 /// Appends the output for the point at which messages stop.
 pub(crate) fn push_stop(
-    alloc: Global,
     out: &mut Output,
-    style: Style<'_>,
-    source: &Source<'_>,
+    look: &Look<'_>,
     progress: &ExplainedMessages<'_>,
 ) -> Result<(), NoMemory>
     requires { FitsStop progress.now.at progress.now.rest.now progress.now.stop }
-    ensures { OnOk result (Appends (IsStopText (style_form style.entry) (origin_of source.now) progress.now.number
-        progress.now.at progress.now.rest.now progress.now.stop) out.old.text out.new.text) }
+    ensures { OnOk result (Appends (IsStopText (style_form look.now.style) (origin_of look.now.source)
+        progress.now.number progress.now.at progress.now.rest.now progress.now.stop) out.old.text out.new.text) }
 {
     match progress.stop {
         Stop::End => Ok(()),
-        Stop::Refused(refusal) => push_first_refusal(alloc, out, style, source, progress, refusal),
+        Stop::Refused(refusal) => push_first_refusal(out, look, progress, refusal),
     }
 }

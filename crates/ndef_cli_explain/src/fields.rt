@@ -37,14 +37,21 @@ fn octets_of<'a>(bytes: &'a [u8], field: &Field) -> &'a [u8]
 
 /// A field, and how it is put into words.
 #[derive(Clone, Copy)]
-struct PrintedField<'a> {
-    wording: Wording,
+pub(crate) struct PrintedField<'a> {
+    pub(crate) wording: Wording,
     /// The number of bytes of the input before the bytes of the field's message.
     at: u64,
-    field: Field,
+    pub(crate) field: Field,
     /// The number of octets that it has if it is a number.
-    whole: usize,
-    octets: &'a [u8],
+    pub(crate) whole: usize,
+    pub(crate) octets: &'a [u8],
+}
+
+/// Bytes, and the fields that are printed of them.
+#[derive(Drop)]
+pub(crate) struct Parsed<'a> {
+    pub(crate) bytes: &'a [u8],
+    pub(crate) fields: Fields<'a>,
 }
 
 /// Appends the place of a field, its first eight octets, their characters if that is requested, and its name.
@@ -60,21 +67,12 @@ fn push_front(line: &mut Bytes, report: &PrintedField<'_>) -> Result<(), NoMemor
     line.extend(field.name.text())
 }
 
-/// Appends the meaning of the octets of a field.
-fn push_said(alloc: Global, line: &mut Bytes, report: &PrintedField<'_>) -> Result<(), NoMemory>
-    ensures { OnOk result (line.new ≡ line.old ++ meaning_of (reading_of report.now.field.name)
-        report.now.wording report.now.whole report.now.octets.now) }
-{
-    let (name, octets) = (report.field.name, report.octets);
-    push_meaning(alloc, line, name, report.wording, report.whole, octets)
-}
-
 /// Appends the meaning of the octets of a field, and those after the first eight.
 fn push_back(alloc: Global, line: &mut Bytes, report: &PrintedField<'_>) -> Result<(), NoMemory>
     ensures { OnOk result (line.new ≡ line.old ++ back_text report.now.wording report.now.whole report.now.field
         report.now.octets.now) }
 {
-    push_said(alloc, line, report)?;
+    push_meaning(alloc, line, report)?;
     let (shown, later) = (report.wording.shown, cut(report.octets, COLUMNS).1);
     push_later_rows(line, shown.characters, report.field.depth, later)?;
     line.extend(b"\n")
@@ -112,16 +110,12 @@ fn push_said_member(out: &mut Output, text: &[u8]) -> Result<(), NoMemory>
 }
 
 /// Appends the member with what the octets of a field say, if they say anything.
-fn push_meaning_member(
-    alloc: Global,
-    out: &mut Output,
-    report: &PrintedField<'_>,
-) -> Result<(), NoMemory>
+fn push_meaning_member(out: &mut Output, report: &PrintedField<'_>) -> Result<(), NoMemory>
     ensures { OnOk result (out.new ≡ with_pairs out.old (meaning_pairs (meaning_of
         (reading_of report.now.field.name) report.now.wording report.now.whole report.now.octets.now))) }
 {
-    let mut text = Bytes::new(alloc);
-    push_said(alloc, &mut text, report)?;
+    let mut text = Bytes::new(out.alloc);
+    push_meaning(out.alloc, &mut text, report)?;
     push_said_member(out, text.as_slice())
 }
 
@@ -137,11 +131,7 @@ fn push_remark_member(out: &mut Output, remark: Option<Remark>) -> Result<(), No
 
 /// Appends the object of a field.
 #[tactic(auto, using(crate::proofs::OutputParts::object_parts))]
-fn push_field_object(
-    alloc: Global,
-    out: &mut Output,
-    report: &PrintedField<'_>,
-) -> Result<(), NoMemory>
+fn push_field_object(out: &mut Output, report: &PrintedField<'_>) -> Result<(), NoMemory>
     requires { report.now.at + report.now.field.at < 2 ^ 64 }
     ensures { OnOk result (out.new ≡ with_value out.old (field_object report.now.wording report.now.at
         report.now.field report.now.whole report.now.octets.now)) }
@@ -151,21 +141,16 @@ fn push_field_object(
     out.number_member(b"at", report.at + field.at as u64)?;
     out.number_member(b"depth", u64::from(field.depth))?;
     out.number_member(b"length", field.length as u64)?;
-    push_meaning_member(alloc, out, report)?;
+    push_meaning_member(out, report)?;
     out.string_member(b"name", field.name.text())?;
-    out.octets_member(alloc, b"octets", report.octets)?;
+    out.octets_member(b"octets", report.octets)?;
     push_remark_member(out, remark_of(report))?;
     out.end(b"}")
 }
 
 /// Appends the lines of a field, or its object.
 #[tactic(auto, unfolding(crate::specs::Outputs::with_text))]
-fn push_field(
-    alloc: Global,
-    out: &mut Output,
-    style: Style<'_>,
-    report: &PrintedField<'_>,
-) -> Result<(), NoMemory>
+fn push_field(out: &mut Output, style: Style<'_>, report: &PrintedField<'_>) -> Result<(), NoMemory>
     requires { report.now.at + report.now.field.at < 2 ^ 64 }
     ensures { OnOk result (out.new ≡ with_either (style_form style.entry) out.old
         (field_text report.now.wording report.now.at report.now.field report.now.whole report.now.octets.now)
@@ -173,26 +158,25 @@ fn push_field(
         ∷ [])) }
 {
     match style {
-        Style::Lines(_) => push_field_lines(alloc, &mut out.text, report),
-        Style::Objects(_) => push_field_object(alloc, out, report),
+        Style::Lines(_) => push_field_lines(out.alloc, &mut out.text, report),
+        Style::Objects(_) => push_field_object(out, report),
     }
 }
 
 /// Appends the lines of the fields of these bytes, or their objects, with `at` bytes of the input before them; what is
 /// strange in them is remarked or not.
 pub(crate) fn push_fields(
-    alloc: Global,
     out: &mut Output,
     style: Style<'_>,
     remarks: bool,
     at: u64,
-    bytes: &[u8],
-    fields: Fields<'_>,
+    parsed: Parsed<'_>,
 ) -> Result<(), NoMemory>
-    requires { PlacesFit at fields }
-    ensures { OnOk result (out.new ≡ with_fields (style_form style.entry) out.old
-        (first_wording (shown_by (style_form style.entry)) remarks) at bytes.now fields.entry) }
+    requires { PlacesFit at parsed.fields }
+    ensures { OnOk result (out.new ≡ with_fields (style_form style.entry) out.old (first_wording
+        (shown_by (style_form style.entry)) remarks) at parsed.entry.bytes.now parsed.entry.fields) }
 {
+    let Parsed { bytes, fields } = parsed;
     let mut wording = Wording::new(shown_by(style), remarks);
     for field in fields {
         let octets = octets_of(bytes, &field);
@@ -203,7 +187,7 @@ pub(crate) fn push_fields(
             whole: whole_of(bytes, &field),
             octets,
         };
-        push_field(alloc, out, style, &report)?;
+        push_field(out, style, &report)?;
         wording = wording.after(field.name, octets);
     }
     Ok(())
@@ -212,17 +196,16 @@ pub(crate) fn push_fields(
 /// Appends the array of the objects of the fields of these bytes.
 #[tactic(auto, using(crate::proofs::OutputParts::array_parts))]
 pub(crate) fn push_fields_array(
-    alloc: Global,
     out: &mut Output,
     remarks: bool,
     at: u64,
-    bytes: &[u8],
-    fields: Fields<'_>,
+    parsed: Parsed<'_>,
 ) -> Result<(), NoMemory>
-    requires { PlacesFit at fields }
-    ensures { OnOk result (out.new ≡ with_value out.old (fields_array remarks at bytes.now fields.entry)) }
+    requires { PlacesFit at parsed.fields }
+    ensures { OnOk result (out.new
+        ≡ with_value out.old (fields_array remarks at parsed.entry.bytes.now parsed.entry.fields)) }
 {
     out.begin(b"[")?;
-    push_fields(alloc, out, Style::Objects(None), remarks, at, bytes, fields)?;
+    push_fields(out, Style::Objects(None), remarks, at, parsed)?;
     out.end(b"]")
 }

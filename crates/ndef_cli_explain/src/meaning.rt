@@ -10,7 +10,8 @@ use crate::codes::{
     ACTION_WORDS, ERROR_WORDS, TNF_WORDS, push_code, push_format, push_power, push_prefix_word,
     word_of,
 };
-use crate::wording::{Wording, push_text, push_worded};
+use crate::fields::PrintedField;
+use crate::wording::{push_text, push_worded};
 use ndef_cli::push_number;
 use ndef_fields::{Field, FieldName};
 use ndef_value::{Bytes, NoMemory};
@@ -212,24 +213,23 @@ fn push_prefix(line: &mut Bytes, code: u8) -> Result<(), NoMemory>
     push_prefix_word(line, code)
 }
 
-/// Appends the meaning of the octets of a field of this name, after a blank, or nothing. A number has `whole` octets.
+/// Appends the meaning of the octets of a field, after a blank, or nothing.
 pub(crate) fn push_meaning(
     alloc: Global,
     line: &mut Bytes,
-    name: FieldName,
-    wording: Wording,
-    whole: usize,
-    octets: &[u8],
+    report: &PrintedField<'_>,
 ) -> Result<(), NoMemory>
-    ensures { OnOk result (line.new ≡ line.old ++ meaning_of (reading_of name) wording whole octets.now) }
+    ensures { OnOk result (line.new ≡ line.old ++ meaning_of (reading_of report.now.field.name)
+        report.now.wording report.now.whole report.now.octets.now) }
 {
+    let octets = report.octets;
     let octet = first(octets);
-    match reading_of(name) {
+    match reading_of(report.field.name) {
         FieldReading::Header => {
             push_flags(line, octet)?;
             push_tnf(line, octet)
         }
-        FieldReading::Number => push_number_text(line, whole, octets),
+        FieldReading::Number => push_number_text(line, report.whole, octets),
         FieldReading::Prefix => push_prefix(line, octet),
         FieldReading::Action => push_code(line, octet, word_of(&ACTION_WORDS, octet)),
         FieldReading::ErrorReason => push_code(line, octet, word_of(&ERROR_WORDS, octet)),
@@ -238,11 +238,11 @@ pub(crate) fn push_meaning(
         FieldReading::Version => push_version(line, octet),
         FieldReading::Quoted => {
             line.extend(b" ")?;
-            push_worded(line, wording.shown.utf8, octets)
+            push_worded(line, report.wording.shown.utf8, octets)
         }
         FieldReading::Text => {
             line.extend(b" ")?;
-            push_text(alloc, line, wording, octets)
+            push_text(alloc, line, report.wording, octets)
         }
         FieldReading::Status => push_status(line, octet),
         FieldReading::Octets => Ok(()),

@@ -11,9 +11,11 @@ use ndef_cli::{push_number, push_quoted_bytes};
 use ndef_value::{Bytes, NoMemory};
 use std::alloc::Global;
 
-/// The output so far; in JSON, whether a comma comes before the next value or name.
+/// The output so far; in JSON, whether a comma comes before the next value or name. Parts of it are made by its
+/// allocator.
 #[derive(Drop)]
 pub(crate) struct Output {
+    pub(crate) alloc: Global,
     pub(crate) text: Bytes,
     pub(crate) later: bool,
 }
@@ -24,6 +26,7 @@ impl Output {
         ensures { result.text ≡ [] }
     {
         Output {
+            alloc,
             text: Bytes::new(alloc),
             later: false,
         }
@@ -118,30 +121,20 @@ impl Output {
     }
 
     /// Appends a member that is a string: octets in hexadecimal digits.
-    pub(crate) fn octets_member(
-        &mut self,
-        alloc: Global,
-        name: &[u8],
-        octets: &[u8],
-    ) -> Result<(), NoMemory>
+    pub(crate) fn octets_member(&mut self, name: &[u8], octets: &[u8]) -> Result<(), NoMemory>
         ensures { OnOk result (self.new ≡ with_pair self.old (name.now, string (encode_lower octets.now))) }
     {
-        let Ok(digits) = hex::encode(alloc, octets) else {
+        let Ok(digits) = hex::encode(self.alloc, octets) else {
             return Err(NoMemory);
         };
         self.string_member(name, digits.as_bytes())
     }
 
     /// Appends a member that is a string: bytes in the form that they have between quotation marks.
-    pub(crate) fn quoted_member(
-        &mut self,
-        alloc: Global,
-        name: &[u8],
-        octets: &[u8],
-    ) -> Result<(), NoMemory>
+    pub(crate) fn quoted_member(&mut self, name: &[u8], octets: &[u8]) -> Result<(), NoMemory>
         ensures { OnOk result (self.new ≡ with_pair self.old (name.now, string (quoted_bytes octets.now))) }
     {
-        let mut text = Bytes::new(alloc);
+        let mut text = Bytes::new(self.alloc);
         push_quoted_bytes(&mut text, octets)?;
         self.string_member(name, text.as_slice())
     }

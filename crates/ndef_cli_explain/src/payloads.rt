@@ -6,10 +6,10 @@ ghost use Rattle.ndef_cli_explain.specs.Fields.{PlacesFit};
 ghost use Rattle.ndef_cli_explain.specs.Forms.{style_form};
 ghost use Rattle.ndef_cli_explain.specs.OfEach.{Puts};
 ghost use Rattle.ndef_cli_explain.specs.Outputs.{with_text, with_value};
-ghost use Rattle.ndef_cli_explain.specs.Payloads.{AddsJoined, AreJoinedBy, ArePayloads, payload_head, payload_object};
-ghost use Rattle.ndef_cli_explain.specs.Payloads.{payload_text, with_payloads, with_payloads_member};
+ghost use Rattle.ndef_cli_explain.specs.Payloads.{AddsJoined, AreJoinedBy, ArePayloads, joined, payload_head};
+ghost use Rattle.ndef_cli_explain.specs.Payloads.{payload_object, payload_text, with_payloads, with_payloads_member};
 
-use crate::fields::{push_fields, push_fields_array};
+use crate::fields::{Parsed, push_fields, push_fields_array};
 use crate::output::Output;
 use crate::style::{Shown, Style};
 use ndef_cli::push_number;
@@ -17,7 +17,6 @@ use ndef_fields::{Fields, payload_fields, payload_fields_are_exact};
 use ndef_lang::Kind;
 use ndef_message::{Item, Items};
 use ndef_value::{Bytes, NoMemory};
-use std::alloc::Global;
 
 /// The fields of a payload of this kind.
 fn fields_of(kind: Kind, payload: &[u8]) -> Fields<'_>
@@ -43,64 +42,52 @@ fn push_payload_head(line: &mut Bytes, number: u64, bytes: u64) -> Result<(), No
 /// Appends the lines of a payload, of the record of this number.
 #[tactic(auto, unfolding(crate::specs::Outputs::with_text))]
 fn push_payload_lines(
-    alloc: Global,
     out: &mut Output,
     shown: Shown,
     number: u64,
-    payload: &[u8],
-    fields: Fields<'_>,
+    payload: Parsed<'_>,
 ) -> Result<(), NoMemory>
-    requires { PlacesFit 0 fields }
-    ensures { OnOk result (out.new ≡ with_text out.old (payload_text shown
-        (record { number = number; octets = payload.now; fields = fields.entry }))) }
+    requires { PlacesFit 0 payload.fields }
+    ensures { OnOk result (out.new ≡ with_text out.old (payload_text shown (joined number payload.entry))) }
 {
-    push_payload_head(&mut out.text, number, payload.len() as u64)?;
-    push_fields(alloc, out, Style::Lines(shown), true, 0, payload, fields)
+    push_payload_head(&mut out.text, number, payload.bytes.len() as u64)?;
+    push_fields(out, Style::Lines(shown), true, 0, payload)
 }
 
 /// Appends the object of a payload: its fields, its number of bytes, and the number of its record.
 #[tactic(auto, using(crate::proofs::OutputParts::object_parts, crate::proofs::OutputParts::pair_parts))]
-fn push_payload_object(
-    alloc: Global,
-    out: &mut Output,
-    number: u64,
-    payload: &[u8],
-    fields: Fields<'_>,
-) -> Result<(), NoMemory>
-    requires { PlacesFit 0 fields }
-    ensures { OnOk result (out.new ≡ with_value out.old (payload_object
-        (record { number = number; octets = payload.now; fields = fields.entry }))) }
+fn push_payload_object(out: &mut Output, number: u64, payload: Parsed<'_>) -> Result<(), NoMemory>
+    requires { PlacesFit 0 payload.fields }
+    ensures { OnOk result (out.new ≡ with_value out.old (payload_object (joined number payload.entry))) }
 {
+    let length = payload.bytes.len() as u64;
     out.begin(b"{")?;
     out.name(b"fields")?;
-    push_fields_array(alloc, out, true, 0, payload, fields)?;
-    out.number_member(b"length", payload.len() as u64)?;
+    push_fields_array(out, true, 0, payload)?;
+    out.number_member(b"length", length)?;
     out.number_member(b"record", number)?;
     out.end(b"}")
 }
 
 /// Appends the lines of a payload, or its object.
 fn push_reported(
-    alloc: Global,
     out: &mut Output,
     style: Style<'_>,
     number: u64,
-    payload: &[u8],
-    fields: Fields<'_>,
+    payload: Parsed<'_>,
 ) -> Result<(), NoMemory>
-    requires { PlacesFit 0 fields }
-    ensures { OnOk result (out.new ≡ with_payloads (style_form style.entry) out.old
-        (record { number = number; octets = payload.now; fields = fields.entry } ∷ [])) }
+    requires { PlacesFit 0 payload.fields }
+    ensures { OnOk result (out.new
+        ≡ with_payloads (style_form style.entry) out.old (joined number payload.entry ∷ [])) }
 {
     match style {
-        Style::Lines(shown) => push_payload_lines(alloc, out, shown, number, payload, fields),
-        Style::Objects(_) => push_payload_object(alloc, out, number, payload, fields),
+        Style::Lines(shown) => push_payload_lines(out, shown, number, payload),
+        Style::Objects(_) => push_payload_object(out, number, payload),
     }
 }
 
 /// Appends the lines of the payload of a record, its chunks joined, or its object.
 fn push_joined(
-    alloc: Global,
     out: &mut Output,
     style: Style<'_>,
     number: u64,
@@ -108,16 +95,15 @@ fn push_joined(
 ) -> Result<(), NoMemory>
     ensures { OnOk result (AddsJoined (style_form style.entry) number (run_record item.now) out.old out.new) }
 {
-    let payload = item.joined(alloc)?;
-    let octets = payload.as_slice();
-    let fields = fields_of(Kind::of(item.tnf(), item.kind()), octets);
-    push_reported(alloc, out, style, number, octets, fields)?;
+    let payload = item.joined(out.alloc)?;
+    let bytes = payload.as_slice();
+    let fields = fields_of(Kind::of(item.tnf(), item.kind()), bytes);
+    push_reported(out, style, number, Parsed { bytes, fields })?;
     Ok(())
 }
 
 /// Appends the lines of the payload of a record, or its object, if it comes in several chunks.
 fn push_payload(
-    alloc: Global,
     out: &mut Output,
     style: Style<'_>,
     number: u64,
@@ -129,14 +115,13 @@ fn push_payload(
     if item.whole().is_some() {
         return Ok(());
     }
-    push_joined(alloc, out, style, number, item)?;
+    push_joined(out, style, number, item)?;
     Ok(())
 }
 
 /// Appends the lines of the payloads that come in several chunks, or their objects, of records of which the first has
 /// this number.
 pub(crate) fn push_payloads(
-    alloc: Global,
     out: &mut Output,
     style: Style<'_>,
     first: u64,
@@ -149,7 +134,7 @@ pub(crate) fn push_payloads(
 {
     let mut number = first;
     for item in items {
-        push_payload(alloc, out, style, number, &item)?;
+        push_payload(out, style, number, &item)?;
         number += 1;
     }
     Ok(())
@@ -157,7 +142,6 @@ pub(crate) fn push_payloads(
 
 /// Appends the member with the array of the objects of these payloads.
 pub(crate) fn push_payloads_member(
-    alloc: Global,
     out: &mut Output,
     first: u64,
     items: Items<'_>,
@@ -168,7 +152,7 @@ pub(crate) fn push_payloads_member(
 {
     out.name(b"payloads")?;
     out.begin(b"[")?;
-    push_payloads(alloc, out, Style::Objects(None), first, items)?;
+    push_payloads(out, Style::Objects(None), first, items)?;
     out.end(b"]")?;
     Ok(())
 }

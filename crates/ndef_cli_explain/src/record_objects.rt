@@ -11,7 +11,6 @@ use ndef_lang::{Kind, Opaque};
 use ndef_message::{Item, View, view};
 use ndef_types::{DecodeError, SmartPoster, Text, Texts, Uri};
 use ndef_value::{Limits, MOST_PAYLOAD, MOST_PIECES, MOST_RECORDS, NoMemory, Profile};
-use std::alloc::Global;
 
 /// Appends the object of a text.
 #[tactic(auto, using(crate::proofs::OutputParts::object_parts))]
@@ -45,11 +44,11 @@ fn push_text_array(out: &mut Output, texts: &Texts) -> Result<(), NoMemory>
 }
 
 /// Appends the object of a smart poster.
-fn push_poster_object(alloc: Global, out: &mut Output, poster: &SmartPoster) -> Result<(), NoMemory>
+fn push_poster_object(out: &mut Output, poster: &SmartPoster) -> Result<(), NoMemory>
     ensures { OnOk result (AddsPosterObject poster.now out.old out.new) }
 {
-    let texts = poster.titles(alloc)?;
-    let uri = poster.uri(alloc)?;
+    let texts = poster.titles(out.alloc)?;
+    let uri = poster.uri(out.alloc)?;
     out.begin(b"{")?;
     out.name(b"titles")?;
     push_text_array(out, &texts)?;
@@ -59,10 +58,10 @@ fn push_poster_object(alloc: Global, out: &mut Output, poster: &SmartPoster) -> 
 }
 
 /// Appends the member with the value of the payload of a text, if it is one.
-fn push_text(alloc: Global, out: &mut Output, payload: &[u8]) -> Result<(), NoMemory>
+fn push_text(out: &mut Output, payload: &[u8]) -> Result<(), NoMemory>
     ensures { OnOk result (PutsValue kinds.Text payload.now out.old out.new) }
 {
-    match Text::decode(alloc, payload) {
+    match Text::decode(out.alloc, payload) {
         Ok(text) => {
             out.name(b"value")?;
             push_text_object(out, &text)?;
@@ -74,10 +73,10 @@ fn push_text(alloc: Global, out: &mut Output, payload: &[u8]) -> Result<(), NoMe
 }
 
 /// Appends the member with the value of the payload of a URI, if it is one.
-fn push_uri(alloc: Global, out: &mut Output, payload: &[u8]) -> Result<(), NoMemory>
+fn push_uri(out: &mut Output, payload: &[u8]) -> Result<(), NoMemory>
     ensures { OnOk result (PutsValue kinds.Uri payload.now out.old out.new) }
 {
-    match Uri::decode_as(alloc, payload, Profile::Standard) {
+    match Uri::decode_as(out.alloc, payload, Profile::Standard) {
         Ok(uri) => {
             out.string_member(b"value", uri.text().as_bytes())?;
             Ok(())
@@ -88,13 +87,13 @@ fn push_uri(alloc: Global, out: &mut Output, payload: &[u8]) -> Result<(), NoMem
 }
 
 /// Appends the member with the value of the payload of a smart poster, if it is one.
-fn push_poster(alloc: Global, out: &mut Output, payload: &[u8]) -> Result<(), NoMemory>
+fn push_poster(out: &mut Output, payload: &[u8]) -> Result<(), NoMemory>
     ensures { OnOk result (PutsValue kinds.SmartPoster payload.now out.old out.new) }
 {
-    match SmartPoster::decode_as(alloc, payload, Profile::Standard) {
+    match SmartPoster::decode_as(out.alloc, payload, Profile::Standard) {
         Ok(poster) => {
             out.name(b"value")?;
-            push_poster_object(alloc, out, &poster)?;
+            push_poster_object(out, &poster)?;
             Ok(())
         }
         Err(DecodeError::Refused(_)) => Ok(()),
@@ -103,13 +102,13 @@ fn push_poster(alloc: Global, out: &mut Output, payload: &[u8]) -> Result<(), No
 }
 
 /// Appends the member with the value of a payload of the kind; nothing if the kind has no value here.
-fn push_value(alloc: Global, out: &mut Output, kind: Kind, payload: &[u8]) -> Result<(), NoMemory>
+fn push_value(out: &mut Output, kind: Kind, payload: &[u8]) -> Result<(), NoMemory>
     ensures { OnOk result (PutsValue kind payload.now out.old out.new) }
 {
     match kind {
-        Kind::Text => push_text(alloc, out, payload),
-        Kind::Uri => push_uri(alloc, out, payload),
-        Kind::SmartPoster => push_poster(alloc, out, payload),
+        Kind::Text => push_text(out, payload),
+        Kind::Uri => push_uri(out, payload),
+        Kind::SmartPoster => push_poster(out, payload),
         Kind::Request | Kind::Select | Kind::Carrier | Kind::Action | Kind::Size => Ok(()),
         Kind::MediaType | Kind::Alternative | Kind::Collision | Kind::Error => Ok(()),
         Kind::Other => Ok(()),
@@ -117,34 +116,29 @@ fn push_value(alloc: Global, out: &mut Output, kind: Kind, payload: &[u8]) -> Re
 }
 
 /// Appends the object of a record of this number.
-fn push_record_object(
-    alloc: Global,
-    out: &mut Output,
-    number: u64,
-    item: &Item<'_>,
-) -> Result<(), NoMemory>
+fn push_record_object(out: &mut Output, number: u64, item: &Item<'_>) -> Result<(), NoMemory>
     ensures { OnOk result (Puts with_values (IsRecordObject number item.now) out.old out.new) }
 {
-    let payload = item.joined(alloc)?;
+    let payload = item.joined(out.alloc)?;
     let kind = Kind::of(item.tnf(), item.kind());
     out.begin(b"{")?;
-    out.quoted_member(alloc, b"id", item.id())?;
+    out.quoted_member(b"id", item.id())?;
     out.number_member(b"length", u64::from(item.length()))?;
     out.number_member(b"number", number)?;
     out.number_member(b"tnf", u64::from(item.tnf().code()))?;
-    out.quoted_member(alloc, b"type", item.kind())?;
-    push_value(alloc, out, kind, payload.as_slice())?;
+    out.quoted_member(b"type", item.kind())?;
+    push_value(out, kind, payload.as_slice())?;
     out.end(b"}")?;
     Ok(())
 }
 
 /// Appends the objects of a message's records.
-fn push_record_objects(alloc: Global, out: &mut Output, message: &View<'_>) -> Result<(), NoMemory>
+fn push_record_objects(out: &mut Output, message: &View<'_>) -> Result<(), NoMemory>
     ensures { OnOk result (Puts with_values (AreRecordObjects 1 message.now.runs) out.old out.new) }
 {
     let mut number = 1;
     for item in message.items() {
-        push_record_object(alloc, out, number, &item)?;
+        push_record_object(out, number, &item)?;
         number += 1;
     }
     Ok(())
@@ -161,18 +155,14 @@ fn widest() -> Limits
 }
 
 /// Appends the member with the records of the message with which the bytes begin.
-pub(crate) fn push_records_member(
-    alloc: Global,
-    out: &mut Output,
-    bytes: &[u8],
-) -> Result<(), NoMemory>
+pub(crate) fn push_records_member(out: &mut Output, bytes: &[u8]) -> Result<(), NoMemory>
     ensures { OnOk result (AddsRecordPairs bytes.now out.old out.new) }
 {
     match view::<Opaque>(bytes, widest()) {
         Ok(message) => {
             out.name(b"records")?;
             out.begin(b"[")?;
-            push_record_objects(alloc, out, &message)?;
+            push_record_objects(out, &message)?;
             out.end(b"]")?;
             Ok(())
         }

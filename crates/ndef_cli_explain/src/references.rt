@@ -9,7 +9,6 @@ use crate::output::Output;
 use ndef_message::View;
 use ndef_types::{Link, LinkError, Links, Power, carriers_view};
 use ndef_value::NoMemory;
-use std::alloc::Global;
 
 /// The name of a power state.
 fn power_name(power: Power) -> &'static [u8]
@@ -36,41 +35,41 @@ fn push_record(out: &mut Output, index: Option<usize>) -> Result<(), NoMemory>
 
 /// Appends the object of a reference.
 #[tactic(auto, using(crate::proofs::OutputParts::object_parts))]
-fn push_reference(alloc: Global, out: &mut Output, link: &Link) -> Result<(), NoMemory>
+fn push_reference(out: &mut Output, link: &Link) -> Result<(), NoMemory>
     requires { IsAmong (2 ^ 32) link.now }
     ensures { OnOk result (out.new ≡ with_value out.old (reference_object link.now)) }
 {
     out.begin(b"{")?;
     out.string_member(b"power", power_name(link.ac.power()))?;
     push_record(out, link.index)?;
-    out.quoted_member(alloc, b"reference", link.ac.reference().as_slice())?;
+    out.quoted_member(b"reference", link.ac.reference().as_slice())?;
     out.end(b"}")
 }
 
 /// Appends the objects of references.
-fn push_reference_objects(alloc: Global, out: &mut Output, links: &Links) -> Result<(), NoMemory>
+fn push_reference_objects(out: &mut Output, links: &Links) -> Result<(), NoMemory>
     requires { AllByRecursion (IsAmong (2 ^ 32)) links.now }
     ensures { OnOk result (out.new ≡ with_values out.old (map reference_object links.now)) }
 {
     for link in links.iter() {
-        push_reference(alloc, out, link)?;
+        push_reference(out, link)?;
     }
     Ok(())
 }
 
 /// Appends the array of the objects of references.
 #[tactic(auto, using(crate::proofs::OutputParts::array_parts))]
-fn push_reference_array(alloc: Global, out: &mut Output, links: &Links) -> Result<(), NoMemory>
+fn push_reference_array(out: &mut Output, links: &Links) -> Result<(), NoMemory>
     requires { AllByRecursion (IsAmong (2 ^ 32)) links.now }
     ensures { OnOk result (out.new ≡ with_value out.old (array_of (map reference_object links.now))) }
 {
     out.begin(b"[")?;
-    push_reference_objects(alloc, out, links)?;
+    push_reference_objects(out, links)?;
     out.end(b"]")
 }
 
 /// Appends the member of references, if there are some.
-fn push_references(alloc: Global, out: &mut Output, links: &Links) -> Result<(), NoMemory>
+fn push_references(out: &mut Output, links: &Links) -> Result<(), NoMemory>
     requires { AllByRecursion (IsAmong (2 ^ 32)) links.now }
     ensures { OnOk result (out.new ≡ with_pairs out.old (reference_pairs links.now)) }
 {
@@ -78,18 +77,18 @@ fn push_references(alloc: Global, out: &mut Output, links: &Links) -> Result<(),
         return Ok(());
     }
     out.name(b"references")?;
-    push_reference_array(alloc, out, links)
+    push_reference_array(out, links)
 }
 
 /// Appends the member of the references of a message, if there are some.
-fn push_references_of(alloc: Global, out: &mut Output, message: &View<'_>) -> Result<(), NoMemory>
+fn push_references_of(out: &mut Output, message: &View<'_>) -> Result<(), NoMemory>
     ensures { OnOk result (AddsReferences (Some message.now) out.old out.new) }
 {
     // For the proof alone.
     let _few = message.items();
-    match carriers_view(alloc, message) {
+    match carriers_view(out.alloc, message) {
         Ok(links) => {
-            push_references(alloc, out, &links)?;
+            push_references(out, &links)?;
             Ok(())
         }
         Err(LinkError::Refused(_)) => Ok(()),
@@ -99,7 +98,6 @@ fn push_references_of(alloc: Global, out: &mut Output, message: &View<'_>) -> Re
 
 /// Appends the member of the references of a message of few records, if there are some.
 pub(crate) fn push_references_member(
-    alloc: Global,
     out: &mut Output,
     few: Option<&View<'_>>,
 ) -> Result<(), NoMemory>
@@ -107,6 +105,6 @@ pub(crate) fn push_references_member(
 {
     match few {
         None => Ok(()),
-        Some(message) => push_references_of(alloc, out, message),
+        Some(message) => push_references_of(out, message),
     }
 }

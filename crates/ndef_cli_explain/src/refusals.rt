@@ -1,10 +1,10 @@
 //! The output for a refusal, and for a record that is refused.
-ghost use Rattle.std.specs.Prelude.{◌≡◌, ◌++◌, ◌+◌, ◌<◌, ◌^◌, OnOk, IfSome, length, option_map};
+ghost use Rattle.std.specs.Prelude.{◌≡◌, ◌++◌, ◌+◌, ◌<◌, ◌^◌, OnOk, IfSome, length};
 ghost use Rattle.ndef_diagnostics.specs.Wordings.{expected_text};
 ghost use Rattle.ndef_fields.specs.Reports.{AreFieldsBefore, IsMessageFront};
 ghost use Rattle.ndef_cli_explain.specs.Advice.{hint_line};
 ghost use Rattle.ndef_cli_explain.specs.Fields.{PlacesFit};
-ghost use Rattle.ndef_cli_explain.specs.Forms.{style_form};
+ghost use Rattle.ndef_cli_explain.specs.Forms.{name_of, style_form};
 ghost use Rattle.ndef_cli_explain.specs.Outputs.{json_line, with_pairs, with_text, with_value};
 ghost use Rattle.ndef_cli_explain.specs.Refusals.{byte_text, follows_pairs, goes_on_line, goes_on_object};
 ghost use Rattle.ndef_cli_explain.specs.Refusals.{goes_on_text, goes_on_where, octet_pairs, place_pairs};
@@ -13,7 +13,7 @@ ghost use Rattle.ndef_cli_explain.specs.Refusals.{refused_text, sound_line, soun
 
 use crate::advice::{push_hint_line, push_hint_members};
 use crate::cells::{push_cells, push_column, push_place, push_start};
-use crate::fields::push_fields;
+use crate::fields::{Parsed, push_fields};
 use crate::messages::{begin_object, push_file};
 use crate::output::Output;
 use crate::recovery_place::Recovery;
@@ -23,7 +23,6 @@ use ndef_cli::push_number;
 use ndef_diagnostics::Expected;
 use ndef_fields::{Fields, fields_before, fields_before_are_exact};
 use ndef_value::{Bytes, NoMemory, Reason, Refusal};
-use std::alloc::Global;
 
 /// The fields of a front of a message, with `at` bytes of the input before it.
 pub(crate) fn fields_of_front(at: u64, front: &[u8]) -> Fields<'_>
@@ -78,8 +77,7 @@ fn push_reason(
     expected: Expected,
 ) -> Result<(), NoMemory>
     requires { at + refusal.at < 2 ^ 64 }
-    ensures { OnOk result (line.new
-        ≡ line.old ++ reason_lines at refusal (expected_text refusal.reason expected)) }
+    ensures { OnOk result (line.new ≡ line.old ++ reason_lines at refusal (expected_text refusal.reason expected)) }
 {
     line.extend(b"refused at ")?;
     push_number(line, at + refusal.at)?;
@@ -104,19 +102,18 @@ fn push_hint(line: &mut Bytes, said: &SaidRefusal) -> Result<(), NoMemory>
 /// Appends the lines of a refusal after `at` bytes: those of the fields of this front, and the description.
 #[tactic(auto, unfolding(crate::specs::Outputs::with_text))]
 fn push_refused_lines(
-    alloc: Global,
     out: &mut Output,
     shown: Shown,
     at: u64,
-    front: &[u8],
-    before: Fields<'_>,
+    front: Parsed<'_>,
     said: &SaidRefusal,
 ) -> Result<(), NoMemory>
     requires place { at + said.now.refusal.at < 2 ^ 64 }
-    requires fit { PlacesFit at before }
-    ensures { OnOk result (out.new.text ≡ out.old.text ++ refused_lines shown at front.now before.entry said.now) }
+    requires fit { PlacesFit at front.fields }
+    ensures { OnOk result (out.new.text
+        ≡ out.old.text ++ refused_lines shown at front.entry.bytes.now front.entry.fields said.now) }
 {
-    push_fields(alloc, out, Style::Lines(shown), false, at, front, before)?;
+    push_fields(out, Style::Lines(shown), false, at, front)?;
     push_byte(&mut out.text, shown.characters, at, said.refusal, said.byte)?;
     push_reason(&mut out.text, at, said.refusal, said.expected)?;
     push_hint(&mut out.text, said)
@@ -136,22 +133,18 @@ fn push_place_members(out: &mut Output, byte: Option<RefusedByte>) -> Result<(),
 }
 
 /// Appends a refused byte, if there is one.
-fn push_octet_member(
-    alloc: Global,
-    out: &mut Output,
-    byte: Option<RefusedByte>,
-) -> Result<(), NoMemory>
+fn push_octet_member(out: &mut Output, byte: Option<RefusedByte>) -> Result<(), NoMemory>
     ensures { OnOk result (out.new ≡ with_pairs out.old (octet_pairs byte)) }
 {
     match byte {
         None => Ok(()),
-        Some(byte) => out.octets_member(alloc, b"octet", &[byte.octet]),
+        Some(byte) => out.octets_member(b"octet", &[byte.octet]),
     }
 }
 
 /// Appends the object with the description of a refusal after `at` bytes.
 #[tactic(auto, using(crate::proofs::OutputParts::object_parts))]
-fn push_said(alloc: Global, out: &mut Output, at: u64, said: &SaidRefusal) -> Result<(), NoMemory>
+fn push_said(out: &mut Output, at: u64, said: &SaidRefusal) -> Result<(), NoMemory>
     requires { at + said.now.refusal.at < 2 ^ 64 }
     ensures { OnOk result (out.new ≡ with_value out.old (refusal_object at said.now)) }
 {
@@ -160,7 +153,7 @@ fn push_said(alloc: Global, out: &mut Output, at: u64, said: &SaidRefusal) -> Re
     out.number_member(b"at", at + said.refusal.at)?;
     push_place_members(out, said.byte)?;
     out.string_member(b"name", reason.name())?;
-    push_octet_member(alloc, out, said.byte)?;
+    push_octet_member(out, said.byte)?;
     out.number_member(b"reason", u64::from(reason.number()))?;
     out.string_member(b"sentence", said.expected.sentence(reason).as_slice())?;
     out.end(b"}")
@@ -179,49 +172,43 @@ fn push_follows(out: &mut Output, from: Recovery) -> Result<(), NoMemory>
 /// Appends the object of a refusal in a line: the fields of this front, and the description.
 #[tactic(auto, using(crate::proofs::OutputParts::line_parts, crate::proofs::OutputParts::pair_parts))]
 fn push_refused_object(
-    alloc: Global,
     out: &mut Output,
     file: Option<&str>,
     from: Recovery,
-    front: &[u8],
-    before: Fields<'_>,
+    front: Parsed<'_>,
     said: &SaidRefusal,
 ) -> Result<(), NoMemory>
     requires place { from.at + said.now.refusal.at < 2 ^ 64 }
-    requires fit { PlacesFit from.at before }
-    ensures { OnOk result (out.new.text ≡ out.old.text ++ json_line (refused_object
-        (option_map (λ name. name.now) file.entry) from front.now before.entry said.now)) }
+    requires fit { PlacesFit from.at front.fields }
+    ensures { OnOk result (out.new.text ≡ out.old.text ++ json_line (refused_object (name_of file.entry) from
+        front.entry.bytes.now front.entry.fields said.now)) }
 {
-    begin_object(alloc, out, false, file, from.at, front, before)?;
+    begin_object(out, false, file, from.at, front)?;
     push_follows(out, from)?;
     push_hint_members(out, said.advice.as_ref())?;
     out.number_member(b"message", from.message)?;
     out.name(b"refused")?;
-    push_said(alloc, out, from.at, said)?;
+    push_said(out, from.at, said)?;
     out.end(b"}")?;
     out.end(b"\n")
 }
 
 /// Appends the output for a refusal: the fields of this front, and the description.
 pub(crate) fn push_refused(
-    alloc: Global,
     out: &mut Output,
     style: Style<'_>,
     from: Recovery,
-    front: &[u8],
-    before: Fields<'_>,
+    front: Parsed<'_>,
     said: &SaidRefusal,
 ) -> Result<(), NoMemory>
     requires place { from.at + said.now.refusal.at < 2 ^ 64 }
-    requires fit { PlacesFit from.at before }
-    ensures { OnOk result (out.new.text
-        ≡ out.old.text ++ refused_text (style_form style.entry) from front.now before.entry said.now) }
+    requires fit { PlacesFit from.at front.fields }
+    ensures { OnOk result (out.new.text ≡ out.old.text ++ refused_text
+        (style_form style.entry) from front.entry.bytes.now front.entry.fields said.now) }
 {
     match style {
-        Style::Lines(shown) => {
-            push_refused_lines(alloc, out, shown, from.at, front, before, said)
-        }
-        Style::Objects(file) => push_refused_object(alloc, out, file, from, front, before, said),
+        Style::Lines(shown) => push_refused_lines(out, shown, from.at, front, said),
+        Style::Objects(file) => push_refused_object(out, file, from, front, said),
     }
 }
 
@@ -239,19 +226,18 @@ fn push_goes_on_line(line: &mut Bytes, number: u64, place: u64) -> Result<(), No
 /// Appends the object of a refused record past which the input is read on, in a line.
 #[tactic(auto, using(crate::proofs::OutputParts::line_parts))]
 fn push_goes_on_object(
-    alloc: Global,
     out: &mut Output,
     file: Option<&str>,
     end: u64,
     message: u64,
     number: u64,
 ) -> Result<(), NoMemory>
-    ensures { OnOk result (out.new.text ≡ out.old.text ++ json_line (goes_on_object
-        (option_map (λ name. name.now) file.entry) end message number)) }
+    ensures { OnOk result (out.new.text ≡ out.old.text ++ json_line (goes_on_object (name_of file.entry)
+        end message number)) }
 {
     out.begin_line()?;
     out.number_member(b"end", end)?;
-    push_file(alloc, out, file)?;
+    push_file(out, file)?;
     out.number_member(b"message", message)?;
     out.number_member(b"record", number)?;
     out.end(b"}")?;
@@ -260,7 +246,6 @@ fn push_goes_on_object(
 
 /// Appends that the input is read on past a refused record, which has this number of records before it.
 pub(crate) fn push_goes_on(
-    alloc: Global,
     out: &mut Output,
     style: Style<'_>,
     from: Recovery,
@@ -274,13 +259,12 @@ pub(crate) fn push_goes_on(
     let (number, place) = (from.records + before as u64 + 1, from.at + end as u64);
     match style {
         Style::Lines(_) => push_goes_on_line(&mut out.text, number, place),
-        Style::Objects(file) => push_goes_on_object(alloc, out, file, place, from.message, number),
+        Style::Objects(file) => push_goes_on_object(out, file, place, from.message, number),
     }
 }
 
 /// The same, where the end of the record is known.
 pub(crate) fn push_goes_on_where(
-    alloc: Global,
     out: &mut Output,
     style: Style<'_>,
     from: Recovery,
@@ -293,7 +277,7 @@ pub(crate) fn push_goes_on_where(
 {
     match end {
         None => Ok(()),
-        Some(end) => push_goes_on(alloc, out, style, from, before, end),
+        Some(end) => push_goes_on(out, style, from, before, end),
     }
 }
 
@@ -311,36 +295,29 @@ fn push_sound_line(line: &mut Bytes, sound: u64, all: u64) -> Result<(), NoMemor
 /// Appends the last object, in a line: the number of all records, and that of the sound ones.
 #[tactic(auto, using(crate::proofs::OutputParts::line_parts))]
 fn push_sound_object(
-    alloc: Global,
     out: &mut Output,
     file: Option<&str>,
     all: u64,
     sound: u64,
 ) -> Result<(), NoMemory>
-    ensures { OnOk result (out.new.text ≡ out.old.text ++ json_line (sound_object
-        (option_map (λ name. name.now) file.entry) all sound)) }
+    ensures { OnOk result (out.new.text ≡ out.old.text ++ json_line (sound_object (name_of file.entry) all sound)) }
 {
     out.begin_line()?;
     out.number_member(b"counted", all)?;
-    push_file(alloc, out, file)?;
+    push_file(out, file)?;
     out.number_member(b"sound", sound)?;
     out.end(b"}")?;
     out.end(b"\n")
 }
 
 /// Appends the end of the output: the number of sound records.
-pub(crate) fn push_sound(
-    alloc: Global,
-    out: &mut Output,
-    style: Style<'_>,
-    last: Recovery,
-) -> Result<(), NoMemory>
+pub(crate) fn push_sound(out: &mut Output, style: Style<'_>, last: Recovery) -> Result<(), NoMemory>
     requires { last.sound + last.refused < 2 ^ 64 }
     ensures { OnOk result (out.new.text ≡ out.old.text ++ sound_text (style_form style.entry) last) }
 {
     let all = last.sound + last.refused;
     match style {
         Style::Lines(_) => push_sound_line(&mut out.text, last.sound, all),
-        Style::Objects(file) => push_sound_object(alloc, out, file, all, last.sound),
+        Style::Objects(file) => push_sound_object(out, file, all, last.sound),
     }
 }

@@ -151,18 +151,13 @@ fn source_of<'a>(options: &ReportOptions, name: &'a str) -> Source<'a>
 }
 
 /// Appends the output for a fault.
-pub(crate) fn push_fault(
-    alloc: Global,
-    out: &mut Output,
-    style: Style<'_>,
-    unread: Unread,
-) -> Result<(), NoMemory>
+pub(crate) fn push_fault(out: &mut Output, style: Style<'_>, unread: Unread) -> Result<(), NoMemory>
     requires { FitsUnread unread }
     ensures { OnOk result (out.new.text ≡ out.old.text ++ unread_text (style_form style.entry) unread) }
 {
     match style {
         Style::Lines(_) => push_fault_line(&mut out.text, unread),
-        Style::Objects(file) => push_unread_object(alloc, out, file, unread),
+        Style::Objects(file) => push_unread_object(out, file, unread),
     }
 }
 

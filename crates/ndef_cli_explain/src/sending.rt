@@ -20,6 +20,7 @@ use crate::inputs::{Unread, octets_of};
 use crate::messages::push_message;
 use crate::output::Output;
 use crate::raw::{RawInput, raw_octets, raw_payload};
+use crate::recovery_place::message_at;
 use crate::reporting::{
     ReportOptions, heading_of, look_at, push_fault, stop_status, unread_status,
 };
@@ -137,15 +138,8 @@ fn send_message<K: Sink>(
         (sink_state K.Sink sink.old) (sink_state K.Sink sink.new) result }
 {
     let mut out = Output::new(alloc);
-    push_message(
-        alloc,
-        &mut out,
-        look.style,
-        message.number,
-        message.at,
-        message.bytes,
-        reported,
-    )?;
+    let from = message_at(message.number, message.at, 0);
+    push_message(&mut out, look.style, from, message.bytes, reported)?;
     send_shown(look.in_color, out.text.as_slice(), sink)
 }
 
@@ -217,15 +211,8 @@ fn send_end<K: Sink>(
         (sink_state K.Sink sink.old) (sink_state K.Sink sink.new) result }
 {
     let mut out = Output::new(alloc);
-    push_stop(alloc, &mut out, look.style, &look.source, progress)?;
-    push_past_stop(
-        alloc,
-        &mut out,
-        look.style,
-        look.source.limits,
-        input,
-        progress,
-    )?;
+    push_stop(&mut out, look, progress)?;
+    push_past_stop(&mut out, look, input, progress)?;
     send_shown(look.in_color, out.text.as_slice(), sink)
 }
 
@@ -260,7 +247,7 @@ fn send_fault<K: Sink>(
         (sink_state K.Sink sink.old) (sink_state K.Sink sink.new) result }
 {
     let mut out = Output::new(alloc);
-    push_fault(alloc, &mut out, look.style, unread)?;
+    push_fault(&mut out, look.style, unread)?;
     match send_shown(look.in_color, out.text.as_slice(), sink) {
         Ok(_) => Ok(unread_status(unread)),
         Err(cut) => Err(cut),

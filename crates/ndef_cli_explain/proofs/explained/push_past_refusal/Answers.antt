@@ -16,7 +16,7 @@ returns c =
         found,
         subst (λ x. EndRecords x sound) c.cut.ensures.front c.records_in.ensures.count,
         subst (λ x. IsRefusedRecord x c.args.refusal found) c.cut.ensures.back c.refused_record-found.ensures.found,
-        subst (λ from. IsPastEnd (style_form c.args.style) c.args.limits c.args.input.now from found found.end a.0) c.message_at-from.ensures a.1,
+        subst (λ from. IsPastEnd (style_form c.args.look.now.style) c.args.look.now.source.limits c.args.input.now from found found.end a.0) c.message_at-from.ensures a.1,
       ),
       a.2,
     )) c.push_past_end.result c.push_past_end.ensures

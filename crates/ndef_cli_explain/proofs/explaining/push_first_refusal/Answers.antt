@@ -7,8 +7,8 @@ use Rattle.ndef_cli_explain.proofs.explaining.push_first_refusal.Goals as goal
 
 pub returns : goal.returns
 returns c =
-    let form = style_form c.args.style in
-    let before = c.fields_of_front-before.result in
+    let form = style_form c.args.look.now.style in
+    let before = c.fields_of_front-fields.result in
     let said = c.said_of-said.result in
     let bytes = c.args.progress.now.rest.now in
     let front = c.cut.ensures.front in (
@@ -17,7 +17,7 @@ returns c =
         before,
         c.hint_for-hint.result,
         said,
-        subst (λ x. AreFieldsBefore x before) front c.fields_of_front-before.ensures.reported,
+        subst (λ x. AreFieldsBefore x before) front c.fields_of_front-fields.ensures.reported,
         c.hint_for-hint.ensures.hint,
         subst (λ advice. IsSaid bytes bytes c.args.refusal advice said) c.in_ok-advice.ensures c.said_of-said.ensures,
         refl,

@@ -1,6 +1,7 @@
 use Rattle.std.proofs.Common.{◌∙◌, ◌∷◌, [], ap}
-use Rattle.std.specs.Prelude.{codes, option_map}
+use Rattle.std.specs.Prelude.{codes}
 use Rattle.serde_json.specs.Data.{string}
+use Rattle.ndef_cli_explain.specs.Forms.{name_of}
 use Rattle.ndef_cli_explain.specs.Messages.{file_pairs}
 use Rattle.ndef_cli_explain.specs.Outputs.{number_value, with_pair, with_pairs}
 use Rattle.ndef_cli_explain.proofs.RecoverySteps.{on_ok}
@@ -9,7 +10,7 @@ use Rattle.ndef_cli_explain.proofs.faults.push_digit_fault.Goals as goal
 
 pub returns : goal.returns
 returns c =
-    let files = file_pairs (option_map (λ name. name.now) c.args.file) in
+    let files = file_pairs (name_of c.args.file) in
     let members = c.in_ok-push_file.ensures
     ∙ ap (λ o. with_pairs o files) (c.in_ok-string_member.ensures ∙ ap (λ o. with_pair o (codes "fault", string (codes "bad digit"))) c.in_ok-number_member.ensures) in
     on_ok (λ e.

@@ -1,7 +1,8 @@
 use Rattle.std.proofs.Common.{◌∙◌, ◌∷◌, ◌++◌, [], ap, sym}
-use Rattle.std.specs.Prelude.{codes, option_map}
+use Rattle.std.specs.Prelude.{codes}
 use Rattle.std.proofs.lemmas.List.Sums.{fold-append}
 use Rattle.serde_json.specs.Data.{string}
+use Rattle.ndef_cli_explain.specs.Forms.{name_of}
 use Rattle.ndef_cli_explain.specs.Messages.{file_pairs}
 use Rattle.ndef_cli_explain.specs.Outputs.{Pair, number_value, with_pair, with_pairs}
 use Rattle.ndef_cli_explain.proofs.RecoverySteps.{on_ok}
@@ -10,7 +11,7 @@ use Rattle.ndef_cli_explain.proofs.faults.push_line_fault.Goals as goal
 
 pub returns : goal.returns
 returns c =
-    let files = file_pairs (option_map (λ name. name.now) c.args.file) in
+    let files = file_pairs (name_of c.args.file) in
     let fault : Pair = (codes "fault", string c.args.fault.now) in
     let line : Pair = (codes "line", number_value c.args.number) in
     let begun = c.begin_line.new.self in

@@ -13,7 +13,7 @@ loop-field-preserved c =
     let form = style_form c.args.style in
     let steps = c.in-Some.ensures.steps in
     let at = c.args.at in
-    let bytes = c.args.bytes.now in
+    let bytes = c.args.parsed.bytes.now in
     let wording = c.loop-field.wording in
     let field = c.in-Some.field in
     let after = wording_after wording field.name (octets_of bytes field) in
@@ -31,5 +31,5 @@ loop-field-preserved c =
 pub returns : goal.returns
 returns c =
     let form = style_form c.args.style in
-    sym (either_none form c.loop-field.out) ∙ sym (ap (with_fields form c.loop-field.out c.loop-field.wording c.args.at c.args.bytes.now) c.in-None.ensures.steps.0)
+    sym (either_none form c.loop-field.out) ∙ sym (ap (with_fields form c.loop-field.out c.loop-field.wording c.args.at c.args.parsed.bytes.now) c.in-None.ensures.steps.0)
     ∙ c.loop-field.invariant.same

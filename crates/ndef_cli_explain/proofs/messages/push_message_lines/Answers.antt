@@ -15,8 +15,8 @@ returns c =
     let shown = c.args.shown in
     let few = c.small_message-few.result in
     let remarks = c.in_ok-remarks.remarks.items in
-    let head = message_head c.args.number c.args.at reported.taken in
-    let fields = field_texts (first_wording shown true) c.args.at c.args.bytes.now reported.fields in
+    let head = message_head c.args.from.message c.args.from.at reported.taken in
+    let fields = field_texts (first_wording shown true) c.args.from.at c.args.bytes.now reported.fields in
     let payloads = payload_texts shown puts.0 in
     let said = record_remark_lines remarks in (
       head ++ (fields ++ (payloads ++ said)),

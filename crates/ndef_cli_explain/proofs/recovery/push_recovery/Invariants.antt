@@ -4,14 +4,14 @@ use Rattle.ndef_cli_explain.specs.Recovery.{AreCounts}
 use Rattle.ndef_cli_explain.proofs.RecoverySteps.{KeepsOn}
 use Rattle.ndef_cli_explain.proofs.recovery.push_recovery.Given as goal
 
-abbrev pub invariant-loop-alloc : goal.invariant-loop-alloc
-invariant-loop-alloc l = record {
-  keeps : KeepsOn (style_form l.style) l.limits l.input l.fn.first l.from l.initial.out.text l.out.text;
+abbrev pub invariant-loop-at : goal.invariant-loop-at
+invariant-loop-at l = record {
+  keeps : KeepsOn (style_form l.look.style) l.look.source.limits l.input l.fn.first l.from l.initial.out.text l.out.text;
   counts : AreCounts l.from;
   within : l.from.at ≤ length l.input;
   rest : drop l.from.at l.copy.items ≡ drop l.from.at l.input;
   size : length l.copy.items ≡ length l.input;
 }
 
-abbrev pub decreases-loop-alloc : goal.decreases-loop-alloc
-decreases-loop-alloc l = length l.input - l.from.at
+abbrev pub decreases-loop-at : goal.decreases-loop-at
+decreases-loop-at l = length l.input - l.from.at

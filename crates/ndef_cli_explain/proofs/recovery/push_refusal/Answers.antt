@@ -12,9 +12,9 @@ returns-clause-step c =
     let form = style_form c.args.style in
     let from = c.args.from in
     let found = c.refused_record-found.result in
-    let before = c.fields_of_front-before.result in
+    let before = c.fields_of_front-fields.result in
     let said = c.said_of-said.result in
-    let front = take c.args.refusal.at c.args.bytes.now in
+    let front = take c.args.refusal.at c.args.rest.bytes.now in
     let one = refused_text form from front before said in
     let two = goes_on_where form from found.before found.end in
     let a = c.in_ok-push_refused.ensures ∙ ap (λ x. c.args.out.now.text ++ refused_text form from x before said) c.cut-2.ensures.front in (
@@ -23,7 +23,7 @@ returns-clause-step c =
         found,
         c.refused_record-found.ensures.found,
         c.past.ensures ∙ ap (past from found) c.unwrap_or.ensures,
-        (before, said, subst (λ x. AreFieldsBefore x before) c.cut.ensures.front c.fields_of_front-before.ensures.reported, c.said_of-said.ensures, refl),
+        (before, said, subst (λ x. AreFieldsBefore x before) c.cut.ensures.front c.fields_of_front-fields.ensures.reported, c.said_of-said.ensures, refl),
       ),
       c.in_ok-push_goes_on_where.ensures ∙ ap (λ x. x ++ two) a ∙ append_assoc c.args.out.now.text one two,
     )
@@ -32,7 +32,7 @@ pub returns-clause-later : goal.returns-clause-later
 returns-clause-later c =
     let from = c.args.from in
     let found = c.refused_record-found.result in
-    let size = length c.args.bytes.now in
+    let size = length c.args.rest.bytes.now in
     let same = c.requires.same in
     let within = c.requires.within in
     let some = c.requires.some in
