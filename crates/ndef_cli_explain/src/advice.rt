@@ -10,7 +10,7 @@ ghost use Rattle.ndef_cli_explain.specs.Shell.{IsNear, origin_of, there_of};
 
 use crate::output::Output;
 use crate::shell::{Source, command_of};
-use ndef_cli::{push_counted, push_number};
+use ndef_cli::push_counted;
 use ndef_diagnostics::{DumpText, Hint, Remark, Wrapping, field_remark, hint_at};
 use ndef_fields::FieldName;
 use ndef_value::{Bytes, Limits, NoMemory, Refusal};

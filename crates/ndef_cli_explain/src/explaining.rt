@@ -1,5 +1,5 @@
 //! The output for the messages of an input, and the point at which they stop.
-ghost use Rattle.std.specs.Prelude.{◌≡◌, ◌<◌, ◌≤◌, IfOk, OnOk, length};
+ghost use Rattle.std.specs.Prelude.{◌<◌, ◌≤◌, IfOk, OnOk, length};
 ghost use Rattle.ndef_fields.specs.FieldLaws.{AreGapless};
 ghost use Rattle.ndef_fields.specs.Reports.{TellsFields};
 ghost use Rattle.ndef_cli_explain.specs.Explaining.{Appends, FitsStop, IsStopText};

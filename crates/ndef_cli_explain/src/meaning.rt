@@ -1,6 +1,5 @@
 //! The meaning of the octets of a field.
-ghost use Rattle.std.specs.Prelude.{◌≡◌, ◌++◌, ◌≤◌, ◌<◌, ◌%◌, OnOk, decimal, length, nat_le, slice_index};
-ghost use Rattle.ndef_format.specs.HeadReasons.{is_set, tnf_number};
+ghost use Rattle.std.specs.Prelude.{◌≡◌, ◌++◌, OnOk, slice_index};
 ghost use Rattle.ndef_cli_explain.specs.Codes.{code_text, prefix_word};
 ghost use Rattle.ndef_cli_explain.specs.Meanings.{cut_text, flags_text, meaning_of, number_text};
 ghost use Rattle.ndef_cli_explain.specs.Meanings.{octets_number, reading_of, said, status_text};

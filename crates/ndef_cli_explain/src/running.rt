@@ -10,7 +10,7 @@ use crate::choice::{Asked, Color, ExplainChoice, ask};
 use crate::pages::page_text;
 use crate::reporting::ReportOptions;
 use crate::sending::tell_next;
-use ndef_cli::{ArgsError, Inputs, Page, Status, page_asked, print, worse};
+use ndef_cli::{ArgsError, Inputs, Status, page_asked, print, worse};
 use ndef_message::Sink;
 use std::alloc::Global;
 

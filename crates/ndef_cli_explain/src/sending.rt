@@ -1,5 +1,5 @@
 //! The output for an input, written message by message.
-ghost use Rattle.std.specs.Prelude.{◌≡◌, ◌+◌, ◌<◌, ◌≤◌, ◌^◌, Err, IfErr, Ok, drop, length, true};
+ghost use Rattle.std.specs.Prelude.{◌≡◌, ◌+◌, ◌<◌, ◌≤◌, ◌^◌, Err, IfErr, Ok, drop, length};
 ghost use Rattle.ndef_fields.specs.FieldLaws.{AreGapless};
 ghost use Rattle.ndef_message.specs.Inputs.{bytes_of};
 ghost use Rattle.ndef_message.specs.States.{sink_state};
@@ -28,7 +28,7 @@ use crate::style::Look;
 use ndef_cli::Status;
 use ndef_fields::FieldReport;
 use ndef_message::{InputError, Sink, WriteFault, send};
-use ndef_value::{Bytes, NoMemory};
+use ndef_value::NoMemory;
 use std::alloc::Global;
 
 /// The line for a lack of memory.

@@ -1,5 +1,5 @@
 //! The wording of the octets of texts.
-ghost use Rattle.std.specs.Prelude.{◌≡◌, ◌++◌, ◌∷◌, [], chars, encode_utf8_all, IfOk, OnOk};
+ghost use Rattle.std.specs.Prelude.{◌≡◌, ◌++◌, chars, IfOk, OnOk};
 ghost use Rattle.std.specs.List.{flat_map};
 ghost use Rattle.ndef_cli_explain.specs.Wordings.{encoding_after, encoding_by_mark, encoding_by_status, first_wording};
 ghost use Rattle.ndef_cli_explain.specs.Wordings.{from_wide, is_printable, text_in_utf8, unit_of, units_in};
