@@ -68,7 +68,7 @@ fn checked_front<'a>(bytes: &'a [u8], limits: Limits, refusal: &mut NdefChecked)
 }
 
 /// The number of fields.
-pub(crate) fn count_of(fields: Fields<'_>) -> usize
+fn count_of(fields: Fields<'_>) -> usize
     requires { length fields < 2 ^ 64 }
     ensures { result ≡ length fields.entry }
 {
@@ -77,6 +77,23 @@ pub(crate) fn count_of(fields: Fields<'_>) -> usize
         count += 1;
     }
     count
+}
+
+/// The number of the fields of some bytes, if it is more than `room`.
+pub(crate) fn too_many(fields: Fields<'_>, bytes: usize, room: usize) -> Option<usize>
+    requires { length fields ≤ bytes }
+    ensures some { IfSome result (λ count. (count ≡ length fields.entry) × (room < count)) }
+    ensures none { IfNone result (length fields.entry ≤ room) }
+{
+    // A field has at least one byte, so these need not be counted.
+    if bytes <= room {
+        return None;
+    }
+    let count = count_of(fields);
+    if count <= room {
+        return None;
+    }
+    Some(count)
 }
 
 /// Writes the fields to the front of the array, and returns how many there are.
@@ -102,15 +119,12 @@ fn give_fields(front: &[u8], checked: u32, array: &mut [NdefField], count: &mut 
         × GivesEach reported checked array.old array.new count.new result }
 {
     fields_before_are_exact();
-    if array.len() < front.len() {
-        // A field has at least one byte. Only here may there be more than the array takes.
-        *count = count_of(fields_before(front));
-        if array.len() < *count {
-            return BUFFER_TOO_SMALL;
-        }
-    }
-    *count = write_fields(fields_before(front), array);
-    checked
+    let Some(needed) = too_many(fields_before(front), front.len(), array.len()) else {
+        *count = write_fields(fields_before(front), array);
+        return checked;
+    };
+    *count = needed;
+    BUFFER_TOO_SMALL
 }
 
 /// Gives the field of each byte of the message with which the bytes begin, or of those before the refused byte (NDEF

@@ -4,7 +4,7 @@ ghost use Rattle.ndef_fields.specs.Reports.{ArePayloadFields};
 ghost use Rattle.ndef_fields.specs.declared.field.Field.{Field as Part};
 ghost use Rattle.ndef_c.specs.Fields.{GivesEach, GivesPayloadFields};
 
-use crate::fields::{NdefField, count_of, write_fields};
+use crate::fields::{NdefField, too_many, write_fields};
 use crate::status::{BAD_ARGUMENT, BUFFER_TOO_SMALL, OK};
 use crate::writing::tnf_of;
 use ndef_fields::{payload_fields, payload_fields_are_exact};
@@ -23,15 +23,12 @@ fn give_payload_fields(
 {
     // For the proof alone.
     payload_fields_are_exact();
-    if array.len() < payload.len() {
-        // A field has at least one byte. Only here may there be more than the array takes.
-        *count = count_of(payload_fields(kind, payload));
-        if array.len() < *count {
-            return BUFFER_TOO_SMALL;
-        }
-    }
-    *count = write_fields(payload_fields(kind, payload), array);
-    OK
+    let Some(needed) = too_many(payload_fields(kind, payload), payload.len(), array.len()) else {
+        *count = write_fields(payload_fields(kind, payload), array);
+        return OK;
+    };
+    *count = needed;
+    BUFFER_TOO_SMALL
 }
 
 /// Gives the field of each byte of the payload of a record with a type name format and a type, its chunks joined (RTD
