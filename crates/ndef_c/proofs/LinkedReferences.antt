@@ -1,5 +1,5 @@
 -- The records to which references refer, among those of a message so far.
-use Rattle.std.proofs.Common.{◌≡◌, ◌≢◌, ℕ, zero, suc, ◌+◌, ◌-◌, ◌<◌, ◌≤◌, Bool, true, false, List, [], ◌∷◌, ◌++◌, length, drop, map, take, get_or, refl, sym, ◌∙◌, ap, subst, arith, ne_eqb, true≢false, inl, inr, is_lt, ◌⊎◌, Option, None, Some}
+use Rattle.std.proofs.Common.{◌≡◌, ◌≢◌, ℕ, zero, suc, ◌+◌, ◌-◌, ◌<◌, ◌≤◌, Bool, true, false, List, [], ◌∷◌, ◌++◌, length, drop, map, take, get_or, refl, sym, ◌∙◌, ap, subst, arith, ne_eqb, true≢false, inl, inr, is_lt, ◌⊎◌, None, Some}
 use Rattle.std.specs.Cmp.Lexicographic.{slice_cmp}
 use Rattle.std.specs.List.Sorted.{IsPartitionPoint, IsPartitionedBy, IsSortedBy}
 use Rattle.std.specs.Ordering.{nat_cmp}
@@ -15,7 +15,7 @@ use Rattle.ndef_format.specs.Records.{Run}
 use Rattle.ndef_types.specs.Contents.{IsFirstAt, Lack}
 use Rattle.ndef_types.specs.Links.{HasId, IsIndexOf}
 use Rattle.ndef_c.specs.HandoverItems.{HasNoRecord, Refers, RefersAmong, name_in, without_record}
-use Rattle.ndef_c.specs.Links.{BeginsWithRuns, FindsRecord, TellsPlace}
+use Rattle.ndef_c.specs.Links.{FindsRecord, TellsPlace}
 use Rattle.ndef_c.specs.ReferenceOrder.{IsHead, Links, has_smaller_name}
 use Rattle.ndef_c.specs.Walks.{BeginsWithRun, LieBetween}
 use Rattle.ndef_c.specs.declared.message.Place.{Place}
@@ -180,11 +180,6 @@ below_next P items index h p k d m = by_order (dec_lt k index)
     by_order : Dec (k < index) → P (get_or items k d)
     by_order (yes n) = h k d n
     by_order (no n) = let e : index ≡ k = omega (arith, m, n) in subst (λ j. P (get_or items j d)) e (p d)
-
--- a reference that is given the record that was found refers to it
-pub refers_with : (bytes payload : List ℕ) (bare new : NdefReferenceItem) (name : List ℕ) (p : Option Place) → without_record new ≡ bare → name ≡ name_in payload bare
-    → ((runs : List Run) → BeginsWithRuns runs bytes → FindsRecord bytes runs name p) → TellsPlace p new.has_record new.record_index new.record_at → Refers bytes payload new
-refers_with bytes payload bare new name p same n finds tells = λ runs b. (p, subst (λ s. FindsRecord bytes runs s p) (n ∙ sym (ap (name_in payload) same)) (finds runs b), tells)
 
 -- ---- a record that a walk passes
 

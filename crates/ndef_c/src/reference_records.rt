@@ -1,5 +1,5 @@
 //! The records of a message to which the references of a handover refer (Connection Handover 1.2).
-ghost use Rattle.std.specs.Prelude.{◌≡◌, ◌≢◌, ◌<◌, ◌≤◌, ◌+◌, ◌↔◌, ℕ, List, [], length, map, take, drop, slice_index_or, Some, IsTrue};
+ghost use Rattle.std.specs.Prelude.{◌≡◌, ◌<◌, ◌+◌, ℕ, List, [], length, map, slice_index_or, Some};
 ghost use Rattle.std.specs.List.{AllByRecursion};
 ghost use Rattle.std.specs.List.Sorted.{IsPermutation, IsSortedBy};
 ghost use Rattle.ndef_c.specs.HandoverItems.{HasNoRecord, Refers, name_in, without_record};
@@ -7,14 +7,11 @@ ghost use Rattle.ndef_c.specs.Links.{HasRuns, TellsPlace};
 ghost use Rattle.ndef_c.specs.ReferenceOrder.{ArePlaced, IsHead, Links, has_smaller_name, order, comes_first};
 ghost use Rattle.ndef_c.specs.declared.reference_items.NdefReferenceItem.{NdefReferenceItem as Reported};
 
-use crate::message::{Place, record_with};
+use crate::message::Place;
 use crate::record::id_in;
 use crate::reference_items::NdefReferenceItem;
 use crate::walk::Walk;
 use std::cmp::Ordering;
-
-/// References that are compared one by one.
-const FEW: usize = 8;
 
 /// A reference, where it lies in the payload.
 fn name_in<'a>(payload: &'a [u8], item: &NdefReferenceItem) -> &'a [u8]
@@ -30,19 +27,15 @@ fn name_in<'a>(payload: &'a [u8], item: &NdefReferenceItem) -> &'a [u8]
     &from[..item.length]
 }
 
-/// The reference, with the record at a place, or without one.
-fn linked(item: &NdefReferenceItem, place: Option<Place>) -> NdefReferenceItem
+/// The reference, with the record at a place.
+fn linked(item: &NdefReferenceItem, place: Place) -> NdefReferenceItem
     ensures same { without_record result ≡ without_record item.now }
-    ensures place { TellsPlace place result.has_record result.record_index result.record_at }
+    ensures place { TellsPlace (Some place) result.has_record result.record_index result.record_at }
 {
-    let (has_record, record_index, record_at) = match place {
-        Some(place) => (1, place.index, place.at),
-        None => (0, 0, 0),
-    };
     NdefReferenceItem {
-        record_index,
-        record_at,
-        has_record,
+        record_index: place.index,
+        record_at: place.at,
+        has_record: 1,
         ..*item
     }
 }
@@ -59,18 +52,6 @@ fn linked_as(item: &NdefReferenceItem, other: &NdefReferenceItem) -> NdefReferen
         record_at: other.record_at,
         has_record: other.has_record,
         ..*item
-    }
-}
-
-/// Gives each reference its record, one after another.
-fn link_each(bytes: &[u8], payload: &[u8], items: &mut [NdefReferenceItem])
-    requires { HasRuns bytes.now }
-    ensures same { map without_record items.new ≡ map without_record items.old }
-    ensures records { AllByRecursion (Refers bytes.now payload.now) items.new }
-{
-    for index in 0..items.len() {
-        let item = items[index];
-        items[index] = linked(&item, record_with(bytes, name_in(payload, &item)));
     }
 }
 
@@ -104,7 +85,7 @@ fn link_first(payload: &[u8], id: &[u8], place: Place, items: &mut [NdefReferenc
     if first < items.len() {
         let item = items[first];
         if item.has_record == 0 && name_in(payload, &item) == id {
-            items[first] = linked(&item, Some(place));
+            items[first] = linked(&item, place);
         }
     }
 }
@@ -148,8 +129,8 @@ fn link_others(payload: &[u8], items: &mut [NdefReferenceItem])
     }
 }
 
-/// Gives each of the references, in their order, the record of the message to which it refers. More than a few are
-/// sorted, so that the time grows with their number times its logarithm.
+/// Gives each of the references, in their order, the record of the message to which it refers. They are sorted, so
+/// that the time grows with their number times its logarithm.
 pub(crate) fn link(bytes: &[u8], payload: &[u8], items: &mut [NdefReferenceItem])
     requires message { HasRuns bytes.now }
     requires none { AllByRecursion HasNoRecord items.old }
@@ -157,12 +138,8 @@ pub(crate) fn link(bytes: &[u8], payload: &[u8], items: &mut [NdefReferenceItem]
     ensures same { map without_record items.new ≡ items.old }
     ensures records { AllByRecursion (Refers bytes.now payload.now) items.new }
 {
-    if items.len() <= FEW {
-        link_each(bytes, payload, items);
-    } else {
-        sort(payload, items);
-        link_heads(bytes, payload, items);
-        link_others(payload, items);
-        sort(&[], items);
-    }
+    sort(payload, items);
+    link_heads(bytes, payload, items);
+    link_others(payload, items);
+    sort(&[], items);
 }
