@@ -1,6 +1,6 @@
 -- Payloads of a layout: their lengths, and what comes after a field.
-use Rattle.std.proofs.Common.{◌≡◌, ◌∙◌, ◌+◌, ◌-◌, ◌<◌, ◌≤◌, ◌⊎◌, ◌↔◌, ℕ, zero, suc, Bool, true, false, List, [], ◌∷◌, ◌++◌, append_assoc, length, take, drop, get_or, map, cond, refl, sym, ap, subst, inl, inr, arith, rules}
-use Rattle.std.specs.Prelude.{◌||◌, ◌^◌, ⊤, IfSome, IsUtf8, Option, None, Some, if◌then◌else◌, max, nat_lt}
+use Rattle.std.proofs.Common.{◌≡◌, ◌∙◌, ◌+◌, ◌-◌, ◌≤◌, ◌⊎◌, ◌↔◌, ℕ, zero, suc, Bool, true, false, List, [], ◌∷◌, ◌++◌, append_assoc, length, take, drop, get_or, refl, sym, ap, subst, inl, inr, arith, rules}
+use Rattle.std.specs.Prelude.{◌^◌, ⊤, IfSome, Option, None, Some, if◌then◌else◌, max, nat_lt}
 use Rattle.std.specs.List.{AllByRecursion}
 use Rattle.std.proofs.Math.Seq.{drop-append_seam, take-append-add}
 use Rattle.std.proofs.lemmas.Bool.{le-ltb}
@@ -12,11 +12,11 @@ use Rattle.ndef_format.specs.declared.reason.Reason.{Reason}
 use Rattle.ndef_format.specs.declared.reason.Reason.TheVariants.{DoesNotFit}
 use Rattle.ndef_format.specs.declared.refusal.Refusal.{Refusal}
 use Rattle.ndef_value.specs.SliceLaws.{after_drop, rest_from}
-use Rattle.ndef_lang.specs.Language.{After, Continues, PassesBetween}
+use Rattle.ndef_lang.specs.Language.{Continues}
 use Rattle.ndef_lang.specs.LengthLaws.{some_octets}
 use Rattle.ndef_lang.specs.Machine.Utf8Laws.{are_utf8_lengths}
 use Rattle.ndef_lang.specs.declared.utf8.Utf8Lang.TheVariants.{Whole}
-use Rattle.ndef_c.specs.Layouts.{AreFields, CanBegin, GoesOn, HasLaidLength, HasNoLength, IsBetween, IsLaidOut, IsOfLayout, IsRefusedFirst, IsRefusedIn, IsRefusedText, LayoutReason, MayBeField, field_of, TextReason, is_last, goes_to_end, layout_of, least_in, most_in, sum_of, text_before}
+use Rattle.ndef_c.specs.Layouts.{AreFields, CanBegin, GoesOn, HasLaidLength, HasNoLength, IsLaidOut, IsRefusedFirst, IsRefusedIn, IsRefusedText, MayBeField, field_of, TextReason, is_last, layout_of, least_in, most_in, sum_of, text_before}
 use Rattle.ndef_c.specs.declared.layout.Field.{Field}
 use Rattle.ndef_c.specs.declared.layout.Field.TheVariants as fields
 use Rattle.ndef_c.specs.declared.layout.NdefLayoutField.{NdefLayoutField}
@@ -68,6 +68,10 @@ passes_some set (suc n) r h = let more = passes_some set n r h in (0 ∷ more.0,
 
 -- ---- lengths
 
+still : {A B C : Type 0} → A ⊎ B → (B → C) → A ⊎ C
+still (inl a) f = inl a
+still (inr b) f = inr (f b)
+
 least_most : (layout : List Field) → sum_of least_in layout ≤ sum_of most_in layout
 least_most [] = omega arith
 least_most (fields.Octets n ∷ more) = let l = least_most more in omega (arith, l)
@@ -82,34 +86,16 @@ laid_length [] s order h = (omega arith, inr (omega (arith, ap length h)))
 laid_length (fields.Octets n ∷ more) s order h =
     let split = passes_split IsOctet (IsLaidOut more) n s h in
     let rest = laid_length more (drop n s) order.2 split.1 in
-    let long = length-drop n s in (
-      omega (arith, split.0, rest.0, long),
-      elim rest.1 [
-        | inl goes ↦ inl goes
-        | inr most ↦ inr (omega (arith, split.0, most, long))
-      ],
-    )
+    let long = length-drop n s in (omega (arith, split.0, rest.0, long), still rest.1 (λ most. omega (arith, split.0, most, long)))
 laid_length (fields.Within least most ∷ more) [] order h = absurd h
 laid_length (fields.Within least most ∷ more) (b ∷ s) order h =
-    let rest = laid_length more s order.2 h.1 in (
-      omega (arith, rest.0),
-      elim rest.1 [
-        | inl goes ↦ inl goes
-        | inr long ↦ inr (omega (arith, long))
-      ],
-    )
+    let rest = laid_length more s order.2 h.1 in (omega (arith, rest.0), still rest.1 (λ long. omega (arith, long)))
 laid_length (fields.Counted ∷ more) [] order h = absurd h
 laid_length (fields.Counted ∷ more) (n ∷ s) order h =
     let split = passes_split IsOctet (IsLaidOut more) n s h.1 in
     let rest = laid_length more (drop n s) order.2 split.1 in
     let long = length-drop n s in
-    let small = h.0 in (
-      omega (arith, split.0, rest.0, long),
-      elim rest.1 [
-        | inl goes ↦ inl goes
-        | inr most ↦ inr (omega (arith, split.0, most, long, small))
-      ],
-    )
+    let small = h.0 in (omega (arith, split.0, rest.0, long), still rest.1 (λ most. omega (arith, split.0, most, long, small)))
 laid_length (fields.Utf8 ∷ more) s order h = (omega (arith, ap (sum_of least_in) (order.1 refl)), inl refl)
 laid_length (fields.Rest ∷ more) s order h = (omega (arith, ap (sum_of least_in) (order.1 refl)), inl refl)
 
@@ -118,24 +104,12 @@ pub laid_some : (layout : List Field) (n : ℕ) → AreInOrder layout → HasLai
 laid_some [] n order (least, inl goes) = absurd (search rules)
 laid_some [] n order (least, inr most) = ([], refl, omega (arith, most))
 laid_some (fields.Octets k ∷ more) n order fits =
-    let inner : HasLaidLength more (n - k) = (
-      omega (arith, fits.0),
-      elim fits.1 [
-        | inl goes ↦ inl goes
-        | inr most ↦ inr (omega (arith, most))
-      ],
-    ) in
+    let inner : HasLaidLength more (n - k) = (omega (arith, fits.0), still fits.1 (λ most. omega (arith, most))) in
     let rest = laid_some more (n - k) order.2 inner in
     let all = passes_some (IsLaidOut more) k rest.0 rest.1 in
     (all.0, all.1, omega (arith, all.2, rest.2, fits.0))
 laid_some (fields.Within least most ∷ more) n order fits =
-    let inner : HasLaidLength more (n - 1) = (
-      omega (arith, fits.0),
-      elim fits.1 [
-        | inl goes ↦ inl goes
-        | inr long ↦ inr (omega (arith, long))
-      ],
-    ) in
+    let inner : HasLaidLength more (n - 1) = (omega (arith, fits.0), still fits.1 (λ long. omega (arith, long))) in
     let rest = laid_some more (n - 1) order.2 inner in
     (least ∷ rest.0, ((omega arith, order.0), rest.1), omega (arith, rest.2, fits.0))
 laid_some (fields.Counted ∷ more) n order (least, inl goes) =
@@ -176,13 +150,7 @@ after_octets n more s octets fits =
       front = front;
       split = sym (take-append-drop n s);
       future = λ r. subst (λ k. IsLaidOut more r ↔ Octets IsOctet k (IsLaidOut more) (front ++ r)) long (passes_front IsOctet (IsLaidOut more) front r (octets_take n s octets));
-      fits = (
-        omega (arith, fits.0, less),
-        elim fits.1 [
-          | inl goes ↦ inl goes
-          | inr most ↦ inr (omega (arith, most, less))
-        ],
-      );
+      fits = (omega (arith, fits.0, less), still fits.1 (λ most. omega (arith, most, less)));
       texts = λ t. past_no more front t n long;
     }
 
@@ -195,18 +163,9 @@ after_within least most more x s above below fits = record {
   front = x ∷ [];
   split = refl;
   future = λ r. (λ h. ((above, below), h), λ h. h.1);
-  fits = (
-    omega (arith, fits.0),
-    elim fits.1 [
-      | inl goes ↦ inl goes
-      | inr long ↦ inr (omega (arith, long))
-    ],
-  );
+  fits = (omega (arith, fits.0), still fits.1 (λ long. omega (arith, long)));
   texts = λ t. refl;
 }
-
-pub not_within : (least most : ℕ) (more : List Field) (x : ℕ) (s : List ℕ) → ((least ≤ x) × (x ≤ most) → ⊥) → IsRefusedFirst (fields.Within least most ∷ more) (x ∷ s)
-not_within least most more x s out = (x, s, refl, (λ p. out p.passed.0), no_reason)
 
 pub after_counted : (more : List Field) (n : ℕ) (s : List ℕ) → AreOctets (n ∷ s) → n ≤ length s → HasLaidLength more (length s - n)
     → GoesOn (fields.Counted ∷ more) more (n ∷ s) (drop n s)

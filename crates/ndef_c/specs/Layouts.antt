@@ -1,5 +1,5 @@
 -- Payloads of a layout that a program gives (NDEF 1.0, PAYLOAD).
-use Rattle.std.specs.Prelude.{◌≡◌, ◌==◌, ◌<◌, ◌≤◌, ◌+◌, ◌-◌, ◌^◌, ◌⊎◌, ◌||◌, ◌++◌, ℕ, Bool, Option, None, Some, true, false, ⊤, IsUtf8, List, [], ◌∷◌, drop, length, map, nat_lt, slice_index, take, if◌then◌else◌, ◌↔◌}
+use Rattle.std.specs.Prelude.{◌≡◌, ◌==◌, ◌<◌, ◌≤◌, ◌+◌, ◌-◌, ◌^◌, ◌⊎◌, ◌||◌, ◌++◌, ℕ, Bool, Option, None, Some, true, false, ⊤, IsUtf8, List, [], ◌∷◌, drop, length, map, nat_lt, slice_index, take, if◌then◌else◌}
 use Rattle.ndef_format.specs.Octets.{Counted, IsOctet, Octets}
 use Rattle.ndef_format.specs.PayloadReasons.{Utf8Reason}
 use Rattle.ndef_format.specs.Reasons.{IsLowest, NoReason, reason_number}

@@ -1,4 +1,4 @@
-use Rattle.std.proofs.Common.{◌∙◌, arith, refl, sym, true≢false}
+use Rattle.std.proofs.Common.{◌∙◌, arith, sym, true≢false}
 use Rattle.ndef_value.specs.SliceLaws.{each_octet}
 use Rattle.ndef_c.specs.Layouts.{layout_of}
 use Rattle.ndef_c.proofs.Layouts.{counted_goes, counted_refused, in_order, octets_go, within_goes}

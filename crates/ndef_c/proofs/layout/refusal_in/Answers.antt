@@ -1,4 +1,4 @@
-use Rattle.std.proofs.Common.{◌∙◌, ◌∷◌, [], ap, refl, subst, sym}
+use Rattle.std.proofs.Common.{◌∙◌, ◌∷◌, ap, refl, subst, sym}
 use Rattle.ndef_value.specs.SliceLaws.{each_octet}
 use Rattle.ndef_c.specs.Layouts.{GoesOn, IsRefusedFirst, is_last, layout_of}
 use Rattle.ndef_c.specs.declared.layout.Field.TheVariants.{Utf8}
