@@ -3,15 +3,15 @@ ghost use Rattle.std.specs.Prelude.{◌≡◌, ◌≢◌, ◌↔◌, ◌⊎◌, 
 ghost use Rattle.ndef_types.specs.Decoding.{IsTooLong};
 ghost use Rattle.ndef_types.specs.Values.{WritesUri};
 ghost use Rattle.ndef_c.specs.Appending.{GivesUriThere, MayBeJoined, MayBeTextThere, asked_of, text_record};
-ghost use Rattle.ndef_c.specs.Built.{GivesWhole, MayBeGrown, held};
+ghost use Rattle.ndef_c.specs.Built.{GivesWhole, held};
 
 use crate::building::{NdefMessageBuilder, append_pending_record, may_grow};
-use crate::content::{Content, content_length};
-use crate::making::PendingRecord;
+use crate::content::Content;
+use crate::poster_parts::known_made;
 use crate::status::BAD_ARGUMENT;
 use crate::text::text_content;
+use ndef_lang::Kind;
 use ndef_types::split;
-use ndef_value::Tnf;
 
 /// Whether a record with the id may follow the message with which the buffer begins.
 fn may_join(buffer: &[u8], builder: &NdefMessageBuilder, id: &[u8]) -> bool
@@ -42,18 +42,11 @@ pub extern "C" fn ndef_append_text(
     let Some(content) = text_content(language, text, flags) else {
         return BAD_ARGUMENT;
     };
-    let Some(bytes) = content_length(&content) else {
-        return BAD_ARGUMENT;
-    };
     if !may_join(buffer, builder, id) {
         return BAD_ARGUMENT;
     }
-    let made = PendingRecord {
-        tnf: Tnf::WellKnown,
-        kind: b"T",
-        id,
-        content,
-        bytes,
+    let Some(made) = known_made(Kind::Text, id, &content) else {
+        return BAD_ARGUMENT;
     };
     append_pending_record(buffer, builder, &made, count)
 }
@@ -79,19 +72,11 @@ pub extern "C" fn ndef_append_uri(
         return BAD_ARGUMENT;
     };
     let (code, rest) = split(text);
-    let content = Content::Uri { code, rest };
-    let Some(bytes) = content_length(&content) else {
-        return BAD_ARGUMENT;
-    };
     if !may_join(buffer, builder, id) {
         return BAD_ARGUMENT;
     }
-    let made = PendingRecord {
-        tnf: Tnf::WellKnown,
-        kind: b"U",
-        id,
-        content,
-        bytes,
+    let Some(made) = known_made(Kind::Uri, id, &Content::Uri { code, rest }) else {
+        return BAD_ARGUMENT;
     };
     append_pending_record(buffer, builder, &made, count)
 }

@@ -1,5 +1,5 @@
 //! Writes the payloads of handover requests and selects from their parts (Connection Handover 1.2).
-ghost use Rattle.std.specs.Prelude.{◌≡◌, ◌≢◌, ◌+◌, ◌<◌, ◌↔◌, length, IfNone, IfSome};
+ghost use Rattle.std.specs.Prelude.{◌≡◌, ◌≢◌, ◌+◌, ◌<◌, ◌↔◌, IfNone, IfSome};
 ghost use Rattle.ndef_c.specs.HandoverMaking.{GivesRequest, GivesSelect, MayBeErrorSaid, MayBeRequest, MayBeSelect, carriers_asked, error_items, select_asked};
 ghost use Rattle.ndef_c.specs.RecordList.{AreSeries};
 
@@ -62,7 +62,7 @@ pub extern "C" fn ndef_write_request<'a>(
     }
     let number = (collision as u16).to_be_bytes();
     let octets = Content::Octets { octets: &number };
-    let Some(made) = known_made(Kind::Collision, &octets) else {
+    let Some(made) = known_made(Kind::Collision, &[], &octets) else {
         unreachable!()
     };
     let several = [
@@ -90,7 +90,7 @@ fn error_series<'a>(how: &NdefSelectWriting, bytes: &'a [u8]) -> Option<RecordLi
                 return None;
             }
             let reason = how.reason as u8;
-            let made = known_made(Kind::Error, &Content::Error { reason, detail })?;
+            let made = known_made(Kind::Error, &[], &Content::Error { reason, detail })?;
             Some(RecordList::One { made })
         }
         _ => None,

@@ -50,5 +50,5 @@ pub(crate) fn alternative_made<'a>(
 {
     let own = own_references(references, alternative)?;
     let content = alternative_content(alternative.power, bytes, own)?;
-    known_made(Kind::Alternative, &content)
+    known_made(Kind::Alternative, &[], &content)
 }

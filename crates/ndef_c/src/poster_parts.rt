@@ -71,20 +71,25 @@ fn content_made<'a>(tnf: Tnf, kind: &'a [u8], content: &Content<'a>) -> Option<P
     })
 }
 
-/// A record of the well-known type of a kind, without an id, if a piece can tell the length of its payload.
-pub(crate) fn known_made<'a>(kind: Kind, content: &Content<'a>) -> Option<PendingRecord<'a>>
-    requires { IsContent content.now }
+/// A record of the well-known type of a kind, if a piece can tell the length of its payload.
+pub(crate) fn known_made<'a>(
+    kind: Kind,
+    id: &'a [u8],
+    content: &Content<'a>,
+) -> Option<PendingRecord<'a>>
+    requires content { IsContent content.now }
+    requires id { length id.now < 256 }
     ensures none { IfNone result (2 ^ 32 ≤ length (content_octets content.now)) }
     ensures fits { IfSome result (λ _. length (content_octets content.now) < 2 ^ 32) }
     ensures made { IfSome result IsMade }
     ensures item { IfSome result (λ m. made_item m
-        ≡ item_with WellKnown (kind_name kind) [] (content_octets content.now)) }
+        ≡ item_with WellKnown (kind_name kind) id.now (content_octets content.now)) }
 {
     let bytes = content_length(content)?;
     Some(PendingRecord {
         tnf: Tnf::WellKnown,
         kind: kind.name(),
-        id: &[],
+        id,
         content: *content,
         bytes,
     })
@@ -101,7 +106,7 @@ pub(crate) fn uri_made(uri: &[u8]) -> Option<PendingRecord<'_>>
         return None;
     };
     let (code, rest) = split(text);
-    known_made(Kind::Uri, &Content::Uri { code, rest })
+    known_made(Kind::Uri, &[], &Content::Uri { code, rest })
 }
 
 /// The record of a title (RTD Text 1.0), if it may be written.
@@ -114,7 +119,7 @@ pub(crate) fn title_made<'a>(bytes: &'a [u8], title: &NdefTitleWriting) -> Optio
     let language = part_in(bytes, &title.language)?;
     let text = part_in(bytes, &title.text)?;
     let content = text_content(language, text, title.utf16)?;
-    known_made(Kind::Text, &content)
+    known_made(Kind::Text, &[], &content)
 }
 
 /// The record of an icon (RTD Smart Poster 1.0, icon record), if it may be written.

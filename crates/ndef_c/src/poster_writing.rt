@@ -1,5 +1,5 @@
 //! Writes the payloads of Smart Poster records from the parts of the poster (RTD Smart Poster 1.0).
-ghost use Rattle.std.specs.Prelude.{◌≡◌, ◌≢◌, ◌<◌, ◌≤◌, ◌==◌, ◌⊎◌, ◌↔◌, [], ◌∷◌, length, if◌then◌else◌, IfNone, IfSome, IsTrue, IsUtf8};
+ghost use Rattle.std.specs.Prelude.{◌≡◌, ◌≢◌, ◌<◌, ◌==◌, ◌⊎◌, ◌↔◌, [], ◌∷◌, length, if◌then◌else◌, IfNone, IfSome, IsTrue, IsUtf8};
 ghost use Rattle.ndef_format.specs.Kinds.{kind_name};
 ghost use Rattle.ndef_format.specs.declared.tnf.Tnf.TheVariants.{WellKnown};
 ghost use Rattle.ndef_c.specs.AlternativeWrites.{IsPartWithin};
@@ -82,7 +82,7 @@ fn asked_series<'a>(has: u32, kind: Kind, octets: &'a [u8]) -> Option<RecordList
     match has {
         0 => Some(RecordList::Nothing),
         1 => {
-            let made = known_made(kind, &Content::Octets { octets })?;
+            let made = known_made(kind, &[], &Content::Octets { octets })?;
             Some(RecordList::One { made })
         }
         _ => None,

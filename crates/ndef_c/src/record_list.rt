@@ -52,28 +52,12 @@ pub(crate) fn series_count(record_list: &RecordList<'_>) -> usize
     }
 }
 
-/// The title with the index.
-fn title_of(titles: &[NdefTitleWriting], index: usize) -> &NdefTitleWriting
-    requires { index < length titles.now }
-    ensures { slice_get titles.now index ≡ Some result.now }
+/// The element with the index.
+fn element<T: Copy>(elements: &[T], index: usize) -> &T
+    requires { index < length elements.now }
+    ensures { slice_get elements.now index ≡ Some result.now }
 {
-    &titles[index]
-}
-
-/// The icon with the index.
-fn icon_of(icons: &[NdefIconWriting], index: usize) -> &NdefIconWriting
-    requires { index < length icons.now }
-    ensures { slice_get icons.now index ≡ Some result.now }
-{
-    &icons[index]
-}
-
-/// The alternative carrier with the index.
-fn alternative_of(alternatives: &[NdefAlternativeWriting], index: usize) -> &NdefAlternativeWriting
-    requires { index < length alternatives.now }
-    ensures { slice_get alternatives.now index ≡ Some result.now }
-{
-    &alternatives[index]
+    &elements[index]
 }
 
 /// The record with the index, if it may be written.
@@ -91,12 +75,12 @@ pub(crate) fn series_made<'a>(
     match *record_list {
         RecordList::Nothing => unreachable!(),
         RecordList::One { made } => Some(made),
-        RecordList::Titles { bytes, titles } => title_made(bytes, title_of(titles, index)),
-        RecordList::Icons { bytes, icons } => icon_made(bytes, icon_of(icons, index)),
+        RecordList::Titles { bytes, titles } => title_made(bytes, element(titles, index)),
+        RecordList::Icons { bytes, icons } => icon_made(bytes, element(icons, index)),
         RecordList::Alternatives {
             bytes,
             references,
             alternatives,
-        } => alternative_made(bytes, references, alternative_of(alternatives, index)),
+        } => alternative_made(bytes, references, element(alternatives, index)),
     }
 }
