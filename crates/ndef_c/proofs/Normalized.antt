@@ -29,16 +29,6 @@ next_octets : (form : Form) (first : Bool) (run : Run) (more : List Run)
 next_octets form first run [] = refl
 next_octets form first run (r ∷ more) = refl
 
--- the record, by the parts that are shown of its first piece
-abbrev pub shown_item : FirstRun → List ℕ → Item
-shown_item found payload = record { tnf = tnf_of (shown found.first).tnf; kind = found.first.kind.now; id = found.first.id.now; payload = payload }
-
-with_parts : (t u : Tnf) (k l i j payload : List ℕ) → t ≡ u → k ≡ l → i ≡ j → ◌≡◌ {A = Item} (record { tnf = t; kind = k; id = i; payload = payload }) (record { tnf = u; kind = l; id = j; payload = payload })
-with_parts t u k l i j payload e f g = rw (e, f, g) refl
-
-pub item_is : {bytes : List ℕ} {found : FirstRun} (x : IsFirstRun bytes found) → shown_item found (run_record x.run).payload ≡ run_record x.run
-item_is {bytes} {found} x = with_parts _ _ _ _ _ _ (run_record x.run).payload (ap (λ q. tnf_of q.tnf) x.initial) (ap (λ q. q.kind) x.initial) (sym (id_of found x))
-
 -- the front of the piece, and the joined payload after it, are the octets of the record
 front_and_payload : {bytes : List ℕ} {found : FirstRun} (x : IsFirstRun bytes found) (form : Form) (first : Bool) (head : Head)
     → written_fields head ≡ fields (first_piece first found.last false (run_record x.run) (run_record x.run).payload) (is_short form (length (run_record x.run).payload))

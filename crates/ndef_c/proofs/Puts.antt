@@ -37,6 +37,13 @@ puts_on {a} {b} {c} {x} {y} p q =
       put = λ h. let m = p.at (omega (arith, h, k)) in put_on a.at b.at x y a.buffer.now b.buffer.now c.buffer.now (omega (arith, h)) (p.put (omega (arith, h, l))) (omega (arith, m, h, l, k)) (q.put (omega (arith, h, l, s, m)));
     }
 
+-- the place after octets that are put, from a place on or from the front
+pub put_to : {a b : Out} {xs : List ℕ} {n : ℕ} (at : ℕ) → a.at ≡ at → Puts a xs b → n ≡ b.at → at + length xs ≤ 18446744073709551615 → n ≡ at + length xs
+put_to at e p n h = let to = p.at (omega (arith, e, h)) in omega (arith, e, to, n, h)
+
+pub counted : {a b : Out} {xs : List ℕ} {n : ℕ} → a.at ≡ 0 → Puts a xs b → n ≡ b.at → length xs ≤ 18446744073709551615 → n ≡ length xs
+counted e p is h = let to = p.at (omega (arith, e)) in omega (arith, e, to, is, h)
+
 -- nothing was put
 pub put_none : (at : ℕ) (old : List ℕ) → IsPut at [] old old
 put_none at old = let e : at ≡ at + 0 = omega arith in record { is = sym (take-append-drop at old) ∙ ap (λ k. take at old ++ drop k old) e }

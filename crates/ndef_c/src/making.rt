@@ -11,8 +11,8 @@ ghost use Rattle.ndef_c.specs.Buffers.{Puts};
 
 use crate::content::{Content, put_content};
 use crate::out::Out;
-use crate::writing::{first_head, put_piece};
-use ndef_message::Form;
+use crate::writing::put_piece;
+use ndef_message::{Form, Standing, first_head};
 use ndef_piece::Head;
 use ndef_value::Tnf;
 
@@ -42,13 +42,17 @@ fn head_of(made: &PendingRecord<'_>, ends: Ends) -> Head
         (is_short Short (length (content_octets made.now.content))) }
     ensures form { FitsForm result.short result.payload_length }
 {
+    let standing = Standing {
+        first: ends.first,
+        last: ends.last,
+        alone: true,
+    };
     first_head(
         made.tnf,
-        made.kind,
-        made.id,
+        made.kind.len(),
+        made.id.len(),
         made.bytes,
-        ends,
-        true,
+        standing,
         Form::Short,
     )
 }

@@ -1,32 +1,23 @@
 //! A message that is written again, each of its records in one piece.
-ghost use Rattle.std.specs.Prelude.{◌≡◌, ◌≢◌, ◌↔◌, ◌⊎◌, ℕ, false, List, length, IfNone, IfSome, IsTrue};
+ghost use Rattle.std.specs.Prelude.{◌≡◌, ◌≢◌, ◌↔◌, ℕ, false, List, length, IfNone, IfSome, IsTrue};
 ghost use Rattle.ndef_format.specs.Messages.{run_record};
 ghost use Rattle.ndef_format.specs.Records.{FitsForm, Run, fields};
 ghost use Rattle.ndef_message.specs.Cut.{first_piece};
 ghost use Rattle.ndef_message.specs.Written.{is_short};
 ghost use Rattle.ndef_piece.specs.Heads.{written_fields};
 ghost use Rattle.ndef_c.specs.Links.{BeginsWithRuns, HasRuns};
-ghost use Rattle.ndef_c.specs.Normalizing.{AsksForForm, CanBeNormalized, GivesNormalized, IsWhole, IsWritable, MayBeNormalized, form_with, normalized};
+ghost use Rattle.ndef_c.specs.Normalizing.{AsksForForm, CanBeNormalized, GivesNormalized, IsWritable, MayBeNormalized, form_with, normalized};
 ghost use Rattle.ndef_c.specs.Buffers.{Puts};
 ghost use Rattle.ndef_c.specs.Runs.{IsFirstRun};
 
-use crate::making::Ends;
 use crate::message::has_message;
 use crate::out::Out;
 use crate::payload::copy_pieces;
 use crate::run::{FirstRun, first_run};
 use crate::status::{BAD_ARGUMENT, BUFFER_TOO_SMALL, OK};
-use crate::writing::{first_head, has_shape, put_piece};
-use ndef_message::Form;
+use crate::writing::{is_whole, put_piece};
+use ndef_message::{Form, Standing, first_head};
 use ndef_piece::{Head, heads_are_unambiguous};
-use ndef_value::Tnf;
-
-/// Whether parts of such lengths can be a record in one piece.
-fn is_whole(tnf: Tnf, kind: usize, id: usize, payload: usize) -> bool
-    ensures { IsTrue result ↔ IsWhole tnf kind id payload }
-{
-    has_shape(tnf, kind, id, payload) && kind <= 255 && id <= 255 && payload <= u32::MAX as usize
-}
 
 /// Whether a record can be in one piece.
 fn is_writable(found: &FirstRun<'_>) -> bool
@@ -45,18 +36,18 @@ fn head_of(found: &FirstRun<'_>, first: bool, form: Form) -> Head
         (is_short form (length (run_record x.run).payload)) }
     ensures form { FitsForm result.short result.payload_length }
 {
-    let ends = Ends {
+    let standing = Standing {
         first,
         last: found.last,
+        alone: true,
     };
     let piece = &found.first;
     first_head(
         piece.tnf(),
-        piece.kind,
-        piece.id,
+        piece.kind.len(),
+        piece.id.len(),
         found.payload,
-        ends,
-        true,
+        standing,
         form,
     )
 }

@@ -1,20 +1,15 @@
 //! Writes a record.
-ghost use Rattle.std.specs.Prelude.{◌≡◌, ◌≢◌, ◌+◌, ◌*◌, ◌≤◌, ◌<◌, ◌^◌, ◌++◌, ◌&&◌, [], not, take, drop, length, unwrap_or, Some, IfNone, IfSome, IsNone, IsTrue, ◌↔◌, ℕ, List};
-ghost use Rattle.ndef_format.specs.Records.{FitsForm, HasShape, fields, tnf_of};
-ghost use Rattle.ndef_format.specs.Messages.{IsShaped};
+ghost use Rattle.std.specs.Prelude.{◌≡◌, ◌≢◌, ◌+◌, ◌*◌, ◌≤◌, ◌<◌, ◌^◌, [], length, unwrap_or, Some, IfNone, IfSome, IsNone, IsTrue, ◌↔◌, ℕ};
+ghost use Rattle.ndef_format.specs.Records.{FitsForm, HasShape, tnf_of};
 ghost use Rattle.ndef_format.specs.Canonical.{HasLengths};
 ghost use Rattle.ndef_format.specs.declared.tnf.Tnf.TheVariants.{Unchanged};
-ghost use Rattle.ndef_piece.specs.Heads.{written_fields};
-ghost use Rattle.ndef_message.specs.Cut.{first_piece};
-ghost use Rattle.ndef_message.specs.Written.{is_short};
-ghost use Rattle.ndef_c.specs.PendingRecord.{item_with};
 ghost use Rattle.ndef_c.specs.Buffers.{Gives, Puts};
+ghost use Rattle.ndef_c.specs.Normalizing.{IsWhole};
 ghost use Rattle.ndef_c.specs.Writes.{item_of, octets_by, octets_of_piece, asked, asked_octets, is_first, is_last, form_of, size_of, LastBegins, MayBeWritten};
 
-use crate::making::Ends;
 use crate::out::Out;
 use crate::status::{BAD_ARGUMENT, BUFFER_TOO_SMALL, OK};
-use ndef_message::{Form, Standing, first_part, later_head};
+use ndef_message::{Form, Standing, first_head, first_part, later_head};
 use ndef_piece::{Head, write_head};
 use ndef_value::Tnf;
 
@@ -67,7 +62,7 @@ pub(crate) fn tnf_of(number: u32) -> Option<Tnf>
 }
 
 /// Whether parts of such lengths go with a type name format (NDEF 1.0, TNF).
-pub(crate) fn has_shape(tnf: Tnf, kind: usize, id: usize, payload: usize) -> bool
+fn has_shape(tnf: Tnf, kind: usize, id: usize, payload: usize) -> bool
     ensures { IsTrue result ↔ ((tnf ≢ Unchanged) × HasShape tnf kind id payload) }
 {
     match tnf {
@@ -78,49 +73,11 @@ pub(crate) fn has_shape(tnf: Tnf, kind: usize, id: usize, payload: usize) -> boo
     }
 }
 
-/// Whether the parts go together.
-fn is_shaped(parts: &Parts<'_>) -> bool
-    ensures { IsTrue result ↔ IsShaped (item_of parts.now) }
+/// Whether parts of such lengths can be a record in one piece.
+pub(crate) fn is_whole(tnf: Tnf, kind: usize, id: usize, payload: usize) -> bool
+    ensures { IsTrue result ↔ IsWhole tnf kind id payload }
 {
-    has_shape(
-        parts.tnf,
-        parts.kind.len(),
-        parts.id.len(),
-        parts.payload.len(),
-    )
-}
-
-/// Whether a piece can hold their lengths.
-fn has_lengths(parts: &Parts<'_>) -> bool
-    ensures { IsTrue result ↔ HasLengths (item_of parts.now) }
-{
-    parts.kind.len() <= 255 && parts.id.len() <= 255 && parts.payload.len() <= u32::MAX as usize
-}
-
-/// The head of the first piece of a record, where that piece has `payload` bytes of the payload.
-pub(crate) fn first_head(
-    tnf: Tnf,
-    kind: &[u8],
-    id: &[u8],
-    payload: usize,
-    ends: Ends,
-    alone: bool,
-    form: Form,
-) -> Head
-    requires kind { length kind.now < 256 }
-    requires id { length id.now < 256 }
-    requires payload { payload < 2 ^ 32 }
-    ensures head { (part : List ℕ) → length part ≡ payload → written_fields result
-        ≡ fields (first_piece ends.first (alone && ends.last) (not alone)
-        (item_with tnf kind.now id.now part) part) (is_short form (length part)) }
-    ensures form { FitsForm result.short result.payload_length }
-{
-    let standing = Standing {
-        first: ends.first,
-        last: ends.last,
-        alone,
-    };
-    ndef_message::first_head(tnf, kind.len(), id.len(), payload, standing, form)
+    has_shape(tnf, kind, id, payload) && kind <= 255 && id <= 255 && payload <= u32::MAX as usize
 }
 
 /// Writes a piece.
@@ -151,18 +108,18 @@ pub(crate) fn put_record(out: &mut Out<'_>, parts: &Parts<'_>, way: Placement) -
         × (result ≡ out.old.at + at) }
 {
     let (part, following) = first_part(parts.payload, way.size);
-    let ends = Ends {
+    let alone = following.is_empty();
+    let standing = Standing {
         first: way.first,
         last: way.last,
+        alone,
     };
-    let alone = following.is_empty();
     let head = first_head(
         parts.tnf,
-        parts.kind,
-        parts.id,
+        parts.kind.len(),
+        parts.id.len(),
         part.len(),
-        ends,
-        alone,
+        standing,
         way.form,
     );
     let mut last = out.at();
@@ -215,16 +172,15 @@ pub(crate) fn asked_parts<'a>(
     let Some(tnf) = tnf_of(how.tnf) else {
         return None;
     };
-    let parts = Parts {
+    if how.flags > 7 || !is_whole(tnf, kind.len(), id.len(), payload.len()) {
+        return None;
+    }
+    Some(Parts {
         tnf,
         kind,
         id,
         payload,
-    };
-    if how.flags > 7 || !is_shaped(&parts) || !has_lengths(&parts) {
-        return None;
-    }
-    Some(parts)
+    })
 }
 
 /// Writes a record to the buffer (NDEF 1.0, record layout and chunked payloads), as the numbers say; an

@@ -1,7 +1,7 @@
-use Rattle.std.proofs.Common.{rules, ◌≡◌, ◌+◌, length, refl, arith}
+use Rattle.std.proofs.Common.{rules, length, refl, arith}
 use Rattle.ndef_c.specs.Writes.{item_of, octets_by}
 use Rattle.ndef_c.proofs.Built.{put_after}
-use Rattle.ndef_c.proofs.Puts.{put_at}
+use Rattle.ndef_c.proofs.Puts.{put_at, put_to}
 use Rattle.ndef_c.proofs.building.append.Goals as goal
 
 pub returns : goal.returns
@@ -10,10 +10,8 @@ returns c =
     let octets = octets_by a.way (item_of a.parts.now) in
     let p = c.put_record-last.ensures in
     let from = c.new-counter.ensures.at in
-    let to = p.put.at (omega (arith, from)) in
     let bound = p.bound in
-    let count = c.at.ensures in
-    let n : c.at.result ≡ a.builder.now.length + length octets = omega (arith, from, to, bound, count) in
+    let n = put_to a.builder.now.length from p.put c.at.ensures (omega (arith, bound)) in
     let l = c.if-buffer-count.false in
     let size = c.reopen.ensures.size in
     let last = p.last.2 in

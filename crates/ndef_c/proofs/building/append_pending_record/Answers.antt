@@ -1,9 +1,9 @@
-use Rattle.std.proofs.Common.{rules, ◌≡◌, ◌==◌, ◌+◌, length, true, refl, arith}
+use Rattle.std.proofs.Common.{rules, ◌==◌, length, true, refl, arith}
 use Rattle.ndef_c.specs.PendingRecord.{made_item, whole_octets}
 use Rattle.ndef_c.specs.declared.making.Ends.{Ends}
 use Rattle.ndef_c.proofs.Built.{put_after}
 use Rattle.ndef_c.proofs.PendingRecord.{whole_begins}
-use Rattle.ndef_c.proofs.Puts.{put_at}
+use Rattle.ndef_c.proofs.Puts.{put_at, put_to}
 use Rattle.ndef_c.proofs.building.append_pending_record.Goals as goal
 
 pub returns : goal.returns
@@ -12,11 +12,8 @@ returns c =
     let ends : Ends = record { first = a.builder.now.length == 0; last = true } in
     let octets = whole_octets ends (made_item a.made.now) in
     let p = c.put_pending_record.ensures in
-    let from = c.new-counter.ensures.at in
-    let to = p.put.at (omega (arith, from)) in
     let bound = p.bound in
-    let count = c.at.ensures in
-    let n : c.at.result ≡ a.builder.now.length + length octets = omega (arith, from, to, bound, count) in
+    let n = put_to a.builder.now.length c.new-counter.ensures.at p.put c.at.ensures (omega (arith, bound)) in
     let l = c.if-buffer-count.false in
     let size = c.reopen.ensures.size in
     record {

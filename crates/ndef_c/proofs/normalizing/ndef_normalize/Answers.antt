@@ -1,6 +1,6 @@
-use Rattle.std.proofs.Common.{rules, ◌≡◌, length, ◌∙◌, ap, subst, arith}
+use Rattle.std.proofs.Common.{rules, length, ◌∙◌, ap, subst, arith}
 use Rattle.ndef_c.specs.Normalizing.{CanBeNormalized, normalized}
-use Rattle.ndef_c.proofs.Puts.{gives_puts, no_room, some_of}
+use Rattle.ndef_c.proofs.Puts.{counted, gives_puts, no_room, some_of}
 use Rattle.ndef_c.proofs.normalizing.ndef_normalize.Goals as goal
 
 pub returns-then-buffer-count-clause-normalized : goal.returns-then-buffer-count-clause-normalized
@@ -10,11 +10,8 @@ returns-then-buffer-count-clause-normalized c = λ _.
     let l = c.in-Some-put_normalized.ensures in
     let can = l.may m.0 m.1 in
     let fits = can.fits in
-    let from = c.new-counter.ensures.at in
-    let to = (l.some m.0 m.1).at (omega (arith, from)) in
-    let count = c.at.ensures in
     let small = c.if-buffer-count.true in
-    let n : c.at.result ≡ length (normalized c.in-Some.form m.0) = omega (arith, fits, from, to, count) in
+    let n = counted c.new-counter.ensures.at (l.some m.0 m.1) c.at.ensures (omega (arith, fits)) in
     let size = n ∙ ap (λ x. length (normalized x m.0)) form in
     record {
       may = record { known = c.in-Some.ensures.known; runs = m.0; message = m.1; can = subst (λ x. CanBeNormalized x m.0) form can };
@@ -28,10 +25,7 @@ returns-clause-normalized c = λ _.
     let l = c.in-Some-put_normalized.ensures in
     let can = l.may m.0 m.1 in
     let fits = can.fits in
-    let from = c.new-counter.ensures.at in
-    let to = (l.some m.0 m.1).at (omega (arith, from)) in
-    let count = c.at.ensures in
-    let n : c.at.result ≡ length (normalized c.in-Some.form m.0) = omega (arith, fits, from, to, count) in
+    let n = counted c.new-counter.ensures.at (l.some m.0 m.1) c.at.ensures (omega (arith, fits)) in
     let again = c.put_normalized-same.ensures in
     let put = some_of c.put_normalized-same.result again.none (λ none. none m.0 m.1 can) again.some m.0 m.1 in
     record {

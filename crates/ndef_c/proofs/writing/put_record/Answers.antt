@@ -1,5 +1,6 @@
-use Rattle.std.proofs.Common.{◌<◌, ◌++◌, [], length, length-take, length-drop, length-append, append_assoc, refl, sym, ◌∙◌, ap, subst, arith}
-use Rattle.ndef_message.specs.WrittenLaws.{some_left, later-end}
+use Rattle.std.proofs.Common.{◌<◌, ◌++◌, [], length, length-take, length-drop, length-append, append_assoc, sym, ◌∙◌, ap, subst, arith}
+use Rattle.ndef_message.specs.WrittenLaws.{first_fields_are, some_left, later-end}
+use Rattle.ndef_message.specs.declared.heads.Standing.{Standing}
 use Rattle.ndef_c.specs.Buffers.{Puts}
 use Rattle.ndef_c.specs.Writes.{item_of, octets_of_piece}
 use Rattle.ndef_format.specs.Messages.{Item}
@@ -14,7 +15,8 @@ loop-last-init c =
     let m : Item = item_of a.parts.now in
     let f = c.first_part.ensures in
     let head = c.first_head-head in
-    let is = head.ensures.head c.first_part.result.0.now refl in
+    let standing : Standing = record { first = a.way.first; last = a.way.last; alone = c.is_empty-alone.result } in
+    let is = head.ensures.head ∙ first_fields_are standing a.way.form m c.first_part.result.0.now in
     let p = ap length f.part ∙ length-take a.way.size m.payload in
     let r = ap length f.rest ∙ length-drop a.way.size m.payload in
     let some = c.requires.some in
