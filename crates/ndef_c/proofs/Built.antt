@@ -1,5 +1,5 @@
 -- A message in a buffer, and the piece that ends it.
-use Rattle.std.proofs.Common.{◌≡◌, ℕ, ◌+◌, ◌-◌, ◌^◌, ◌<◌, ◌≤◌, ◌==◌, suc, ne_eqb, Bool, true, false, true≢false, List, [], ◌∷◌, ◌++◌, take, drop, get_or, refl, sym, ◌∙◌, ap, ap₂, subst, arith, length, length-take, append-nil, inl, inr, Some}
+use Rattle.std.proofs.Common.{◌≡◌, ℕ, ◌+◌, ◌-◌, ◌^◌, ◌<◌, ◌≤◌, ◌==◌, suc, ne_eqb, Bool, true, false, true≢false, List, [], ◌∷◌, ◌++◌, take, drop, get_or, refl, sym, ◌∙◌, ap, ap₂, subst, arith, length, length-take, append-nil, Some}
 use Rattle.std.specs.Prelude.{slice_set, unwrap_or}
 use Rattle.std.proofs.Math.Seq.{take-set-lt}
 use Rattle.std.proofs.lemmas.List.{drop-drop, get_or-take}
@@ -7,7 +7,7 @@ use Rattle.ndef_format.specs.Messages.{Item}
 use Rattle.ndef_format.specs.Records.{Piece, bit}
 use Rattle.ndef_piece.specs.Heads.{HeadsAreUnambiguous}
 use Rattle.ndef_piece.specs.Whole.{IsSplit}
-use Rattle.ndef_c.specs.Built.{AppendedBegins, EndsWithPiece, GivesAppended, Holding, IsBuilt, MayBeGrown, appended_octets, held, reopened}
+use Rattle.ndef_c.specs.Built.{AppendedBegins, EndsWithPiece, GivesAppended, Holding, IsBuilt, appended_octets, held, reopened}
 use Rattle.ndef_c.specs.Buffers.{IsPut}
 use Rattle.ndef_c.specs.Writes.{LastBegins, form_of, octets_by, record_octets, size_of}
 use Rattle.ndef_c.specs.declared.building.NdefMessageBuilder.{NdefMessageBuilder}

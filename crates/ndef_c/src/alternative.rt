@@ -9,10 +9,10 @@ ghost use Rattle.ndef_c.specs.Payloads.{RefusesWith};
 
 use crate::checking::NdefChecked;
 use crate::part::NdefPart;
-use crate::refusal::refuse;
+use crate::refusal::{accepts, is_payload};
 use crate::status::{BAD_ARGUMENT, END, OK, REFUSED};
 use ndef_lang::{Kind, Leaf};
-use ndef_types::{AlternativeParts, accept, alternatives_are_exact};
+use ndef_types::{AlternativeParts, alternatives_are_exact};
 use ndef_value::Profile;
 
 /// An alternative carrier.
@@ -54,13 +54,11 @@ pub extern "C" fn ndef_alternative(
     ensures kept { result ≡ REFUSED → out.new ≡ out.old }
     ensures kept_refusal { result ≡ OK → refusal.new ≡ refusal.old }
 {
-    match accept::<Leaf>(Kind::Alternative, Profile::Strict, payload) {
-        Ok(()) => {
-            *out = alternative_at(payload);
-            OK
-        }
-        Err(found) => refuse(found, refusal),
+    if !accepts::<Leaf>(Kind::Alternative, 0, payload, refusal) {
+        return REFUSED;
     }
+    *out = alternative_at(payload);
+    OK
 }
 
 /// The reference after its length octet, at an offset.
@@ -147,8 +145,8 @@ pub extern "C" fn ndef_reference(payload: &[u8], index: usize, out: &mut NdefPar
     ensures end { result ≡ END → HasNoReference payload.now index }
     ensures kept { result ≢ OK → out.new ≡ out.old }
 {
-    match accept::<Leaf>(Kind::Alternative, Profile::Strict, payload) {
-        Ok(()) => give_reference(payload, index, out),
-        Err(_) => BAD_ARGUMENT,
+    if !is_payload::<Leaf>(Kind::Alternative, Profile::Strict, payload) {
+        return BAD_ARGUMENT;
     }
+    give_reference(payload, index, out)
 }

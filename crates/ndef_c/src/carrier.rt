@@ -1,5 +1,5 @@
 //! The payloads of Handover Carrier records (Connection Handover 1.2).
-ghost use Rattle.std.specs.Prelude.{◌≡◌, ◌<◌, ◌≤◌, ◌^◌, ◌↔◌, ◌⊎◌, length, IsTrue};
+ghost use Rattle.std.specs.Prelude.{◌≡◌, ◌<◌, ◌^◌, ◌↔◌, ◌⊎◌, length, IsTrue};
 ghost use Rattle.ndef_format.specs.Handovers.{IsCarrier};
 ghost use Rattle.ndef_format.specs.Reasons.{NoReason};
 ghost use Rattle.ndef_types.specs.Values.{WritesCarrier};
@@ -8,11 +8,10 @@ ghost use Rattle.ndef_c.specs.Payloads.{GivesFor, RefusesWith};
 
 use crate::buffer::give_parts;
 use crate::checking::NdefChecked;
-use crate::refusal::refuse;
+use crate::refusal::accepts;
 use crate::status::{BAD_ARGUMENT, OK, REFUSED};
 use ndef_lang::{Kind, Leaf};
-use ndef_types::{CarrierParts, accept};
-use ndef_value::Profile;
+use ndef_types::CarrierParts;
 
 /// A handover carrier, by offsets and lengths in its payload.
 #[repr(C)]
@@ -60,13 +59,11 @@ pub extern "C" fn ndef_carrier(
     ensures kept { result ≡ REFUSED → out.new ≡ out.old }
     ensures kept_refusal { result ≡ OK → refusal.new ≡ refusal.old }
 {
-    match accept::<Leaf>(Kind::Carrier, Profile::Strict, payload) {
-        Ok(()) => {
-            *out = carrier_at(payload);
-            OK
-        }
-        Err(found) => refuse(found, refusal),
+    if !accepts::<Leaf>(Kind::Carrier, 0, payload, refusal) {
+        return REFUSED;
     }
+    *out = carrier_at(payload);
+    OK
 }
 
 /// Whether a carrier of these parts may be written.

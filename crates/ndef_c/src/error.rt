@@ -7,11 +7,10 @@ ghost use Rattle.ndef_c.specs.Payloads.{RefusesWith};
 
 use crate::checking::NdefChecked;
 use crate::poster::reported;
-use crate::refusal::refuse;
+use crate::refusal::accepts;
 use crate::status::{OK, REFUSED};
 use ndef_lang::{Kind, Leaf};
-use ndef_types::{ErrorParts, accept, errors_are_exact};
-use ndef_value::Profile;
+use ndef_types::{ErrorParts, errors_are_exact};
 
 /// A handover error, its data by their offset and length in its payload.
 #[repr(C)]
@@ -71,11 +70,9 @@ pub extern "C" fn ndef_error(payload: &[u8], out: &mut NdefError, refusal: &mut 
     ensures kept { result ≡ REFUSED → out.new ≡ out.old }
     ensures kept_refusal { result ≡ OK → refusal.new ≡ refusal.old }
 {
-    match accept::<Leaf>(Kind::Error, Profile::Strict, payload) {
-        Ok(()) => {
-            *out = error_at(payload);
-            OK
-        }
-        Err(found) => refuse(found, refusal),
+    if !accepts::<Leaf>(Kind::Error, 0, payload, refusal) {
+        return REFUSED;
     }
+    *out = error_at(payload);
+    OK
 }

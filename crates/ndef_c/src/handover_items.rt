@@ -1,7 +1,7 @@
 //! A handover and all its references, in one call (Connection Handover 1.2).
-ghost use Rattle.std.specs.Prelude.{◌≡◌, ◌≢◌, ◌<◌, ◌^◌, ◌↔◌, ◌⊎◌, List, [], length, sum_by, None, IfSome, IsTrue};
+ghost use Rattle.std.specs.Prelude.{◌≡◌, ◌≢◌, ◌<◌, ◌^◌, ◌↔◌, ◌⊎◌, List, length, sum_by, None, IfSome, IsTrue};
 ghost use Rattle.ndef_format.specs.Messages.{Item};
-ghost use Rattle.ndef_format.specs.Nested.{IsNest, table_of};
+ghost use Rattle.ndef_format.specs.Nested.{IsNest};
 ghost use Rattle.ndef_format.specs.NestedReasons.{NestReason};
 ghost use Rattle.ndef_format.specs.declared.profile.Profile.{Profile};
 ghost use Rattle.ndef_format.specs.declared.table.Table.TheVariants as tables;
@@ -13,16 +13,14 @@ ghost use Rattle.ndef_c.specs.Payloads.{RefusesWith};
 
 use crate::checking::NdefChecked;
 use crate::items::kind_with;
-use crate::limits::profile_of;
 use crate::message::has_message;
 use crate::reference_items::{NdefReferenceItem, count_references, tell_references};
 use crate::reference_records::link;
-use crate::refusal::refuse;
+use crate::refusal::accepts;
 use crate::request::request_at;
 use crate::select::select_at;
 use crate::status::{BAD_ARGUMENT, BUFFER_TOO_SMALL, OK, REFUSED};
 use ndef_nest::{Nest, Table};
-use ndef_types::accept;
 
 /// A handover request or a select.
 #[repr(C)]
@@ -192,11 +190,9 @@ pub extern "C" fn ndef_handover_items(
     let Some(table) = handover_table(kind) else {
         return BAD_ARGUMENT;
     };
-    match accept::<Nest>(kind_with(table), profile_of(flags), payload) {
-        Ok(()) => {
-            *out = handover_of(table, payload);
-            give_items(bytes, payload, out.references, items)
-        }
-        Err(found) => refuse(found, refusal),
+    if !accepts::<Nest>(kind_with(table), flags, payload, refusal) {
+        return REFUSED;
     }
+    *out = handover_of(table, payload);
+    give_items(bytes, payload, out.references, items)
 }

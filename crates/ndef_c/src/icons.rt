@@ -72,14 +72,6 @@ impl<'a> RecordQuery for Icons<'a> {
     }
 }
 
-/// Writes the place of each icon, if the array is large enough, and their number.
-fn give_icons(payload: &[u8], array: &mut [NdefIcon], count: &mut usize) -> u32
-    requires { IsPosterPayload payload.now }
-    ensures { GivesIcons payload.now array.old array.new count.new result }
-{
-    give_all(&Icons { payload }, array, count)
-}
-
 /// Gives the offsets of the media type and the image of each icon of a smart poster, in the payload
 /// of the poster. Each record of a media type counts, whatever the type.
 #[unsafe(no_mangle)]
@@ -95,5 +87,5 @@ pub extern "C" fn ndef_poster_icons(
     if !is_poster(payload) {
         return BAD_ARGUMENT;
     }
-    give_icons(payload, array, count)
+    give_all(&Icons { payload }, array, count)
 }

@@ -11,22 +11,21 @@ ghost use Rattle.ndef_value.specs.declared.limits.TheConstants.{MOST_RECORDS};
 ghost use Rattle.ndef_c.specs.Arrays.{set_over};
 ghost use Rattle.ndef_c.specs.Checks.{ChecksPayloads, LeavesPayloads, limits_of, profile_of};
 ghost use Rattle.ndef_c.specs.Items.{AreItems, AreListed, AreTyped, GivesItems, GivesNested, GivesWithin, HasValue, IsItemAt, IsTextValue, IsUriValue, IsValueOf, MayBeItem, MayHaveItems, MayHaveValue, Repeats, message_at, no_value, value_of};
-ghost use Rattle.ndef_c.specs.Kinds.{kind_number, kind_with, table_within};
+ghost use Rattle.ndef_c.specs.Kinds.{kind_with, table_within};
 ghost use Rattle.ndef_c.specs.Walks.{IsRecordAt};
 ghost use Rattle.ndef_c.specs.declared.items.NdefItem.{NdefItem as Reported};
 
 use crate::checking::{NdefChecked, check_in};
 use crate::kinds::{ndef_kind, number_of, table_within};
-use crate::limits::{NdefLimits, limits_of, profile_of};
+use crate::limits::{NdefLimits, limits_of};
 use crate::query::{Expected, count_expected};
 use crate::record::{NdefRecord, record_at};
-use crate::refusal::refuse;
-use crate::status::{BAD_ARGUMENT, BUFFER_TOO_SMALL, OK};
+use crate::refusal::accepts;
+use crate::status::{BAD_ARGUMENT, BUFFER_TOO_SMALL, OK, REFUSED};
 use crate::text::text_at;
 use crate::uri_parts::uri_at;
 use ndef_lang::{Kind, Opaque, RecordLanguage};
 use ndef_nest::{Nest, Table, Typed};
-use ndef_types::accept;
 use ndef_value::{Limits, Profile, Tnf};
 
 /// A record, by offsets and lengths in the bytes. Its id lies between its type and its payload, so at `payload_at` -
@@ -403,8 +402,8 @@ pub extern "C" fn ndef_items_within(
     let Some(table) = table_within(kind) else {
         return BAD_ARGUMENT;
     };
-    match accept::<Nest>(kind_with(table), profile_of(flags), payload) {
-        Ok(()) => give_nested(table, payload, out, items),
-        Err(found) => refuse(found, out),
+    if !accepts::<Nest>(kind_with(table), flags, payload, out) {
+        return REFUSED;
     }
+    give_nested(table, payload, out, items)
 }

@@ -1,5 +1,5 @@
 //! Records of the messages in payloads, where they lie.
-ghost use Rattle.std.specs.Prelude.{◌≡◌, Bool, List, length};
+ghost use Rattle.std.specs.Prelude.{◌≡◌, List, length};
 ghost use Rattle.ndef_format.specs.Messages.{Item};
 ghost use Rattle.ndef_format.specs.declared.profile.Profile.{Profile};
 ghost use Rattle.ndef_format.specs.Kinds.{kind_of};

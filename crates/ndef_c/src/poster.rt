@@ -15,14 +15,12 @@ ghost use Rattle.ndef_c.specs.Payloads.{RefusesWith};
 ghost use Rattle.ndef_c.specs.Posters.{IsPosterAt, HasPosterRecords};
 
 use crate::checking::NdefChecked;
-use crate::limits::profile_of;
 use crate::nested::{Found, first_of};
 use crate::numbers::number_in;
-use crate::refusal::refuse;
+use crate::refusal::accepts;
 use crate::status::{BAD_ARGUMENT, OK, REFUSED};
 use ndef_lang::Kind;
 use ndef_nest::{Nest, Table};
-use ndef_types::accept;
 
 /// A smart poster: where the payload of its URI record lies in its payload, its action and its size.
 #[repr(C)]
@@ -127,11 +125,9 @@ pub extern "C" fn ndef_poster(
     if flags > 1 {
         return BAD_ARGUMENT;
     }
-    match accept::<Nest>(Kind::SmartPoster, profile_of(flags), payload) {
-        Ok(()) => {
-            *out = poster_at(payload);
-            OK
-        }
-        Err(found) => refuse(found, refusal),
+    if !accepts::<Nest>(Kind::SmartPoster, flags, payload, refusal) {
+        return REFUSED;
     }
+    *out = poster_at(payload);
+    OK
 }

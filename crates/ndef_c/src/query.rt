@@ -125,7 +125,8 @@ fn tell_all<S: RecordQuery>(query: &S, array: &mut [S::Given])
 /// Writes the results, if the array is large enough, and the number of the records.
 pub(crate) fn give_all<S: RecordQuery>(query: &S, array: &mut [S::Given], count: &mut usize) -> u32
     requires { (items : List Each) × S.has_records query.now items }
-    ensures { (items : List Each) × S.has_records query.now items
+    ensures known { (result ≡ OK) ⊎ (result ≡ BUFFER_TOO_SMALL) }
+    ensures gives { (items : List Each) × S.has_records query.now items
         × GivesMany (EachAt (S.is_given query.now items) 0) (length (filter (has_type S.expected) items))
         array.old array.new count.new result }
 {

@@ -1,5 +1,5 @@
 //! Records of a message where they lie.
-ghost use Rattle.std.specs.Prelude.{◌≡◌, ◌≢◌, ◌<◌, ◌≤◌, ◌↔◌, ◌⊎◌, ℕ, List, length, IfNone, IfSome};
+ghost use Rattle.std.specs.Prelude.{◌≡◌, ◌≢◌, ◌<◌, ◌↔◌, ℕ, List, length, IfNone, IfSome};
 ghost use Rattle.ndef_format.specs.Messages.{run_record};
 ghost use Rattle.ndef_c.specs.Walks.{IsRecordThere, IsRecordAt};
 

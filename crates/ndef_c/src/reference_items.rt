@@ -1,5 +1,5 @@
 //! All references of a handover, read from its payload (Connection Handover 1.2).
-ghost use Rattle.std.specs.Prelude.{◌≡◌, ◌<◌, ◌≤◌, ◌+◌, ◌^◌, ◌++◌, ◌%◌, List, length, drop, slice_index, sum_by};
+ghost use Rattle.std.specs.Prelude.{◌≡◌, ◌<◌, ◌≤◌, ◌+◌, ◌^◌, ◌++◌, ◌%◌, List, length, sum_by};
 ghost use Rattle.std.specs.List.{AllByRecursion};
 ghost use Rattle.ndef_format.specs.Handovers.{IsAlternative};
 ghost use Rattle.ndef_format.specs.Messages.{Item};
@@ -9,7 +9,6 @@ ghost use Rattle.ndef_types.specs.Values.{AcValue, StandsForAc};
 ghost use Rattle.ndef_c.specs.Alternatives.{references};
 ghost use Rattle.ndef_c.specs.Arrays.{EachAt, set_over};
 ghost use Rattle.ndef_c.specs.HandoverItems.{AreReferenceItems, HasCarriers, HasNoRecord, IsOfPart, IsReferenceOf, reference_count, references_of};
-ghost use Rattle.ndef_c.specs.declared.part.NdefPart.{NdefPart as Part};
 ghost use Rattle.ndef_c.specs.declared.reference_items.NdefReferenceItem.{NdefReferenceItem as Reported};
 
 use crate::alternative::{counted_at, references_in};

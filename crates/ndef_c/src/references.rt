@@ -8,9 +8,10 @@ ghost use Rattle.ndef_c.specs.declared.part.NdefPart.{NdefPart as Part};
 
 use crate::alternative::counted_at;
 use crate::part::NdefPart;
+use crate::refusal::is_payload;
 use crate::status::{BAD_ARGUMENT, BUFFER_TOO_SMALL, OK};
 use ndef_lang::{Kind, Leaf};
-use ndef_types::{accept, alternatives_are_exact};
+use ndef_types::alternatives_are_exact;
 use ndef_value::Profile;
 
 /// Writes where each reference lies to the front of the parts.
@@ -58,8 +59,8 @@ pub extern "C" fn ndef_references(payload: &[u8], parts: &mut [NdefPart], count:
     ensures references { result ≢ BAD_ARGUMENT
         → GivesReferences payload.now parts.old parts.new count.new result }
 {
-    match accept::<Leaf>(Kind::Alternative, Profile::Strict, payload) {
-        Ok(()) => give_references(payload, parts, count),
-        Err(_) => BAD_ARGUMENT,
+    if !is_payload::<Leaf>(Kind::Alternative, Profile::Strict, payload) {
+        return BAD_ARGUMENT;
     }
+    give_references(payload, parts, count)
 }

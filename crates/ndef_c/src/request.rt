@@ -13,14 +13,12 @@ ghost use Rattle.ndef_c.specs.Payloads.{RefusesWith};
 
 use crate::checking::NdefChecked;
 use crate::handover::{after_version, version_of};
-use crate::limits::profile_of;
 use crate::nested::{alternatives_in, first_of};
 use crate::numbers::number_in;
-use crate::refusal::refuse;
+use crate::refusal::accepts;
 use crate::status::{BAD_ARGUMENT, OK, REFUSED};
 use ndef_lang::Kind;
 use ndef_nest::{Nest, Table};
-use ndef_types::accept;
 
 /// A handover request.
 #[repr(C)]
@@ -89,11 +87,9 @@ pub extern "C" fn ndef_request(
     if flags > 1 {
         return BAD_ARGUMENT;
     }
-    match accept::<Nest>(Kind::Request, profile_of(flags), payload) {
-        Ok(()) => {
-            *out = request_at(payload);
-            OK
-        }
-        Err(found) => refuse(found, refusal),
+    if !accepts::<Nest>(Kind::Request, flags, payload, refusal) {
+        return REFUSED;
     }
+    *out = request_at(payload);
+    OK
 }

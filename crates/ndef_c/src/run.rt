@@ -1,5 +1,5 @@
 //! A record at the front of any bytes.
-ghost use Rattle.std.specs.Prelude.{◌≡◌, ◌≤◌, ◌<◌, ◌↔◌, length, IfNone, IfSome, IsTrue};
+ghost use Rattle.std.specs.Prelude.{◌<◌, ◌↔◌, IfNone, IfSome, IsTrue};
 ghost use Rattle.ndef_format.specs.Records.{IsInitial, IsLater};
 ghost use Rattle.ndef_format.specs.declared.profile.Profile.TheVariants.{Standard};
 ghost use Rattle.ndef_piece.specs.Whole.{shown};

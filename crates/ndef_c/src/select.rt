@@ -14,13 +14,11 @@ ghost use Rattle.ndef_c.specs.Payloads.{RefusesWith};
 
 use crate::checking::NdefChecked;
 use crate::handover::{after_version, version_of};
-use crate::limits::profile_of;
 use crate::nested::{alternatives_in, first_of};
-use crate::refusal::refuse;
+use crate::refusal::accepts;
 use crate::status::{BAD_ARGUMENT, OK, REFUSED};
 use ndef_lang::Kind;
 use ndef_nest::{Nest, Table};
-use ndef_types::accept;
 
 /// A handover select.
 #[repr(C)]
@@ -120,11 +118,9 @@ pub extern "C" fn ndef_select(
     if flags > 1 {
         return BAD_ARGUMENT;
     }
-    match accept::<Nest>(Kind::Select, profile_of(flags), payload) {
-        Ok(()) => {
-            *out = select_at(payload);
-            OK
-        }
-        Err(found) => refuse(found, refusal),
+    if !accepts::<Nest>(Kind::Select, flags, payload, refusal) {
+        return REFUSED;
     }
+    *out = select_at(payload);
+    OK
 }

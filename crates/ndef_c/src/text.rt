@@ -11,12 +11,11 @@ ghost use Rattle.ndef_c.specs.Texts.{GivesText, MayBeSpelled, MayBeText, asked_t
 use crate::buffer::give;
 use crate::checking::NdefChecked;
 use crate::content::{Content, give_content};
-use crate::refusal::refuse;
+use crate::refusal::accepts;
 use crate::status::{BAD_ARGUMENT, BUFFER_TOO_SMALL, OK, REFUSED};
 use crate::utf16::give_in_utf8;
 use ndef_lang::{Kind, Leaf};
-use ndef_types::{Encoding, TextParts, accept, texts_are_exact, unmark};
-use ndef_value::Profile;
+use ndef_types::{Encoding, TextParts, texts_are_exact, unmark};
 
 /// A text, by offsets and lengths in its payload.
 #[repr(C)]
@@ -70,13 +69,11 @@ pub extern "C" fn ndef_text(payload: &[u8], out: &mut NdefText, refusal: &mut Nd
     ensures kept { result ≡ REFUSED → out.new ≡ out.old }
     ensures kept_refusal { result ≡ OK → refusal.new ≡ refusal.old }
 {
-    match accept::<Leaf>(Kind::Text, Profile::Strict, payload) {
-        Ok(()) => {
-            *out = text_at(payload);
-            OK
-        }
-        Err(found) => refuse(found, refusal),
+    if !accepts::<Leaf>(Kind::Text, 0, payload, refusal) {
+        return REFUSED;
     }
+    *out = text_at(payload);
+    OK
 }
 
 /// Writes the text of a payload to the buffer in UTF-8.
@@ -112,10 +109,10 @@ pub extern "C" fn ndef_text_in_utf8(
     ensures kept { result ≡ REFUSED → (buffer.new ≡ buffer.old) × (count.new ≡ count.old) }
     ensures kept_refusal { result ≢ REFUSED → refusal.new ≡ refusal.old }
 {
-    match accept::<Leaf>(Kind::Text, Profile::Strict, payload) {
-        Ok(()) => give_text(payload, buffer, count),
-        Err(found) => refuse(found, refusal),
+    if !accepts::<Leaf>(Kind::Text, 0, payload, refusal) {
+        return REFUSED;
     }
+    give_text(payload, buffer, count)
 }
 
 /// Returns the content of a text, which is given in UTF-8, if the numbers and its parts may be written.

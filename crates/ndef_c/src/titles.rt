@@ -13,23 +13,23 @@ ghost use Rattle.ndef_c.specs.Posters.{HasPosterRecords};
 ghost use Rattle.ndef_c.specs.Titles.{FindsMediaType, FindsTitle, GivesTitles, IsPosterPayload, IsTitleAt, IsTitleIn, LiesAsText, PosterLacks};
 ghost use Rattle.ndef_c.specs.Walks.{IsRecordAt, Lies};
 
-use crate::handover::is_nest;
 use crate::nested::first_of;
 use crate::part::NdefPart;
 use crate::query::{Expected, RecordQuery, give_all};
 use crate::record::{NdefRecord, part_in, tnf_in, type_in};
+use crate::refusal::is_payload;
 use crate::status::{BAD_ARGUMENT, END, OK};
 use crate::text::{NdefText, text_at};
 use crate::walk::Walk;
 use ndef_lang::Kind;
-use ndef_nest::Table;
-use ndef_value::Tnf;
+use ndef_nest::{Nest, Table};
+use ndef_value::{Profile, Tnf};
 
 /// Whether the payload is that of a smart poster, as the standard reads it.
 pub(crate) fn is_poster(payload: &[u8]) -> bool
     ensures { IsTrue result ↔ IsPosterPayload payload.now }
 {
-    is_nest(Kind::SmartPoster, payload)
+    is_payload::<Nest>(Kind::SmartPoster, Profile::Standard, payload)
 }
 
 /// Whether the records of a poster with a type are titles.
@@ -97,14 +97,6 @@ impl<'a> RecordQuery for Titles<'a> {
     }
 }
 
-/// Writes the place of each title, if the array is large enough, and their number.
-fn give_titles(payload: &[u8], texts: &mut [NdefText], count: &mut usize) -> u32
-    requires { IsPosterPayload payload.now }
-    ensures { GivesTitles payload.now texts.old texts.new count.new result }
-{
-    give_all(&Titles { payload }, texts, count)
-}
-
 /// Gives the offset of each title of a smart poster, as `ndef_text` gives the parts of a text, but by offsets in the
 /// payload of the poster.
 #[unsafe(no_mangle)]
@@ -120,7 +112,7 @@ pub extern "C" fn ndef_poster_titles(
     if !is_poster(payload) {
         return BAD_ARGUMENT;
     }
-    give_titles(payload, texts, count)
+    give_all(&Titles { payload }, texts, count)
 }
 
 /// Gives the offset of the media type to which the URI of a smart poster leads.

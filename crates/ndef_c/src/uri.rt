@@ -12,11 +12,10 @@ ghost use Rattle.ndef_c.specs.Buffers.{Gives};
 use crate::buffer::give_parts;
 use crate::checking::NdefChecked;
 use crate::content::{Content, give_content};
-use crate::limits::profile_of;
-use crate::refusal::refuse;
+use crate::refusal::accepts;
 use crate::status::{BAD_ARGUMENT, REFUSED};
 use ndef_lang::{Kind, Leaf};
-use ndef_types::{accept, prefix, split};
+use ndef_types::{prefix, split};
 
 /// Writes the URI of a payload to the buffer.
 fn give_uri(payload: &[u8], buffer: &mut [u8], count: &mut usize) -> u32
@@ -50,10 +49,10 @@ pub extern "C" fn ndef_uri(
     if flags > 1 {
         return BAD_ARGUMENT;
     }
-    match accept::<Leaf>(Kind::Uri, profile_of(flags), payload) {
-        Ok(()) => give_uri(payload, buffer, count),
-        Err(found) => refuse(found, refusal),
+    if !accepts::<Leaf>(Kind::Uri, flags, payload, refusal) {
+        return REFUSED;
     }
+    give_uri(payload, buffer, count)
 }
 
 /// Writes the payload of a URI record, by the longest prefix that begins the URI, to the buffer.

@@ -10,11 +10,10 @@ ghost use Rattle.ndef_c.specs.Buffers.{Gives};
 
 use crate::buffer::give;
 use crate::checking::NdefChecked;
-use crate::limits::profile_of;
-use crate::refusal::refuse;
+use crate::refusal::accepts;
 use crate::status::{BAD_ARGUMENT, OK, REFUSED};
 use ndef_lang::{Kind, Leaf};
-use ndef_types::{accept, prefix};
+use ndef_types::prefix;
 
 /// A URI: the prefix of a code, and the rest, which lies in the payload.
 #[repr(C)]
@@ -63,13 +62,11 @@ pub extern "C" fn ndef_split_uri(
     if flags > 1 {
         return BAD_ARGUMENT;
     }
-    match accept::<Leaf>(Kind::Uri, profile_of(flags), payload) {
-        Ok(()) => {
-            *out = uri_at(payload);
-            OK
-        }
-        Err(found) => refuse(found, refusal),
+    if !accepts::<Leaf>(Kind::Uri, flags, payload, refusal) {
+        return REFUSED;
     }
+    *out = uri_at(payload);
+    OK
 }
 
 /// Writes the prefix of a code (RTD URI 1.0, URI identifier codes) to the buffer; a reserved

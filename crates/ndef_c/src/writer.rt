@@ -1,7 +1,7 @@
 //! A record that is written in steps.
 ghost use Rattle.std.specs.Prelude.{◌≡◌, ◌≢◌, ◌≤◌, ◌↔◌, List, ℕ, IfSome, IsNone};
-ghost use Rattle.ndef_message.specs.Steps.{AreLeft, Continues, IsBegun, LeavesNothing, WritesNext};
-ghost use Rattle.ndef_c.specs.Writers.{BeginsAsWritten, IsWriter, MayBegin, MayGoOn, MovesOn, asked_plan, begun_of, lengths_of, unwritten};
+ghost use Rattle.ndef_message.specs.Steps.{AreLeft, LeavesNothing};
+ghost use Rattle.ndef_c.specs.Writers.{BeginsAsWritten, IsWriter, MayBegin, MayGoOn, MovesOn, asked_plan, begun_of, unwritten};
 
 use crate::status::{BAD_ARGUMENT, END, OK};
 use crate::writing::{NdefWriting, tnf_of, way_of};

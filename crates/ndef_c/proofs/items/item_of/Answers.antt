@@ -1,4 +1,4 @@
-use Rattle.std.proofs.Common.{◌≡◌, refl, sym, ◌∙◌, subst, arith}
+use Rattle.std.proofs.Common.{refl, sym, ◌∙◌, subst, arith}
 use Rattle.ndef_format.specs.Messages.{run_record}
 use Rattle.ndef_c.specs.Items.{MayHaveValue, value_of}
 use Rattle.ndef_c.proofs.Listed.{record_size, same_value}

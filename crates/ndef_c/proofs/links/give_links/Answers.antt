@@ -6,5 +6,5 @@ give_all-requires c = let h = handover_of c.args.payload.now c.requires.handover
 
 pub returns : goal.returns
 returns c =
-    let t = c.give_all.ensures in
+    let t = c.give_all.ensures.gives in
     record { may = c.requires; items = t.0; records = t.1.1; gives = t.2 }

@@ -9,8 +9,8 @@ count_expected-needed-requires g c =
     let h = c.requires in
     (Standard, h.0, subst (MayBeInPieces Standard h.0) (sym c.message.ensures) (g.met.S.RecordQuery.in_pieces c.args.query.now h.0 h.1))
 
-pub returns-then-array-needed : goal.returns-then-array-needed
-returns-then-array-needed g c =
+pub returns-then-array-needed-clause-gives : goal.returns-then-array-needed-clause-gives
+returns-then-array-needed-clause-gives g c =
     let h = c.requires in
     let n = c.count_expected-needed.ensures Standard h.0 (subst (MayBeInPieces Standard h.0) (sym c.message.ensures) (g.met.S.RecordQuery.in_pieces c.args.query.now h.0 h.1)) in
     (h.0, h.1, is_too_small _ _ _ _ n c.if-array-needed.true)
@@ -21,8 +21,8 @@ tell_all-requires-clause-buffer g c = λ items h.
     let l = c.if-array-needed.false in
     omega (arith, n, l)
 
-pub returns : goal.returns
-returns g c =
+pub returns-clause-gives : goal.returns-clause-gives
+returns-clause-gives g c =
     let t = c.tell_all.ensures in
     let n = c.count_expected-needed.ensures Standard t.0 (subst (MayBeInPieces Standard t.0) (sym c.message.ensures) (g.met.S.RecordQuery.in_pieces c.args.query.now t.0 t.1)) in
     let l = c.if-array-needed.false in
