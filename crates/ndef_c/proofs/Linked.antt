@@ -1,23 +1,21 @@
 -- The links that are given are those of the message.
 use Rattle.std.proofs.Common.{◌≡◌, ℕ, zero, suc, ◌∷◌, [], drop, refl, sym, ◌∙◌, ap, subst, arith, true≢false, List, length, map, append-nil, Some, None, inl, inr, Option}
-use Rattle.std.specs.List.{AllByRecursion}
 use Rattle.std.specs.Prelude.{slice_get, Ok}
 use Rattle.std.proofs.lemmas.List.{take_all}
 use Rattle.ndef_format.specs.Messages.{BeginsOnce, SpellsBy, Item, SpellsPieces, all_pieces, run_record}
-use Rattle.ndef_format.specs.Records.{IsRun, Run}
+use Rattle.ndef_format.specs.Records.{Run}
 use Rattle.ndef_format.specs.Limits.{LimitValues}
-use Rattle.ndef_format.specs.Laws.{OneMeaning}
+use Rattle.ndef_format.specs.Laws.{IsNoStricter, OneMeaning}
 use Rattle.ndef_format.specs.declared.profile.Profile.{Profile}
 use Rattle.ndef_format.specs.declared.profile.Profile.TheVariants.{Strict, Standard}
 use Rattle.ndef_format.specs.Handovers.{IsAlternative}
 use Rattle.ndef_format.specs.Kinds.{kind_of}
+use Rattle.ndef_format.specs.declared.kind.Kind.TheVariants as kinds
 use Rattle.ndef_format.specs.Payloads.{Sets}
 use Rattle.ndef_format.specs.Reasons.{Conditions}
 use Rattle.ndef_message.specs.Views.{Viewed, Views}
-use Rattle.ndef_format.specs.Nested.{HasContents, IsNest, Nested, table_of}
-use Rattle.ndef_nest.specs.Nested.{StrictContentsAreRead}
-use Rattle.ndef_format.specs.declared.table.Table.{Table}
-use Rattle.ndef_format.specs.declared.table.Table.TheVariants.{Request, Select}
+use Rattle.ndef_format.specs.Nested.{IsNest, table_of}
+use Rattle.ndef_nest.specs.WiderLaws.{typed_stays}
 use Rattle.ndef_types.specs.Contents.{IsFirstAt, Lack, StandsForMessage}
 use Rattle.ndef_types.specs.ContentsLaws.{has_at}
 use Rattle.ndef_types.specs.Decoding.{OneValue}
@@ -31,7 +29,7 @@ use Rattle.ndef_c.specs.Walks.{AreWalked, BeginsWithRun, ends_message, is_last_r
 use Rattle.ndef_c.specs.declared.message.Place.{Place}
 use Rattle.ndef_c.proofs.Ahead.{none_left}
 use Rattle.ndef_c.proofs.Followed.{one_record}
-use Rattle.ndef_c.proofs.Walked.{checks_walked, read_standard}
+use Rattle.ndef_c.proofs.Walked.{checks_walked}
 use Rattle.ndef_c.proofs.Walking.{some_last}
 
 -- ---- one message
@@ -111,42 +109,13 @@ links_count outer (j ∷ items) (l ∷ links) h = let n = links_count outer item
 
 -- ---- handovers, as each reader takes them
 
-each_standard : (profile : Profile) (rs : List Run) → AllByRecursion (IsRun profile) rs → AllByRecursion (IsRun Standard) rs
-each_standard profile [] h = tt
-each_standard profile (r ∷ rs) h = (read_standard profile r h.0, each_standard profile rs h.1)
+no_stricter : (profile : Profile) → IsNoStricter profile Standard
+no_stricter Strict = tt
+no_stricter Standard = refl
 
-flat_standard : (profile : Profile) (runs : List Run) (items : List Item) (bytes : List ℕ) → SpellsBy profile runs items bytes → SpellsBy Standard runs items bytes
-flat_standard profile runs items bytes h = record {
-  message = record {
-    each_run = each_standard profile runs h.message.each_run;
-    items = h.message.items;
-    shaped = h.message.shaped;
-    begins = h.message.begins;
-    ends = h.message.ends;
-  };
-  spelled = h.spelled;
-}
-
-contents_standard : StrictContentsAreRead → (table : Table) (profile : Profile) (items : List Item) → HasContents table profile items → HasContents table Standard items
-contents_standard read table Strict items h = read table Standard items h
-contents_standard read table Standard items h = h
-
-nested_standard : StrictContentsAreRead → (table : Table) (profile : Profile) (bytes : List ℕ) → Nested table 65535 profile bytes → Nested table 65535 Standard bytes
-nested_standard read table profile bytes (runs, items, n) =
-    (runs, items, record { spelling = flat_standard profile runs items bytes n.spelling; single = n.single; few = n.few; contents = contents_standard read table profile items n.contents })
-
-request_standard : StrictContentsAreRead → (profile : Profile) (s : List ℕ) → IsNest Request 65535 profile s → IsNest Request 65535 Standard s
-request_standard read profile [] h = absurd h
-request_standard read profile (v ∷ s) h = (h.0, nested_standard read Request profile s h.1)
-
-select_standard : StrictContentsAreRead → (profile : Profile) (s : List ℕ) → IsNest Select 65535 profile s → IsNest Select 65535 Standard s
-select_standard read profile [] h = absurd h
-select_standard read profile (v ∷ s) (o, inl e) = (o, inl e)
-select_standard read profile (v ∷ s) (o, inr n) = (o, inr (nested_standard read Select profile s n))
-
-is_handover : StrictContentsAreRead → (profile : Profile) (i : Item) → IsHandoverRecord i → IsNest (table_of (kind_of i.tnf i.kind)) 65535 profile i.payload → IsHandoverPayload i.payload
-is_handover read profile i (inl k) h = inl (request_standard read profile i.payload (subst (λ k. IsNest (table_of k) 65535 profile i.payload) k h))
-is_handover read profile i (inr k) h = inr (select_standard read profile i.payload (subst (λ k. IsNest (table_of k) 65535 profile i.payload) k h))
+is_handover : (profile : Profile) (i : Item) → IsHandoverRecord i → IsNest (table_of (kind_of i.tnf i.kind)) 65535 profile i.payload → IsHandoverPayload i.payload
+is_handover profile i (inl k) h = inl (typed_stays kinds.Request 65535 65535 profile Standard i.payload (omega arith) (no_stricter profile) (subst (λ k. IsNest (table_of k) 65535 profile i.payload) k h))
+is_handover profile i (inr k) h = inr (typed_stays kinds.Select 65535 65535 profile Standard i.payload (omega arith) (no_stricter profile) (subst (λ k. IsNest (table_of k) 65535 profile i.payload) k h))
 
 -- ---- the links
 
@@ -154,11 +123,11 @@ same_links : OneMeaning → (profile : Profile) (outer items : List Item) (paylo
 same_links one profile outer items [] links h m = absurd h
 same_links one profile outer items (version ∷ bytes) links h m = subst (λ is. AreLinks outer (alternatives is) links) (sym (items_once one Standard profile items bytes h.0 m h.1)) h.2
 
-pub links_reported : OneMeaning → StrictContentsAreRead → OneValue IsAlternative StandsForAc → (set : Sets) (holds : Conditions) → LinksAreExact set holds
-links_reported one read value set holds limits bytes v handover links s k short l =
+pub links_reported : OneMeaning → OneValue IsAlternative StandsForAc → (set : Sets) (holds : Conditions) → LinksAreExact set holds
+links_reported one value set holds limits bytes v handover links s k short l =
     let b = begins_with_runs set holds limits bytes v s in
     record {
-      may = record { handover = is_handover read limits.profile handover k l.0; short = short; message = (v.runs, b) };
+      may = record { handover = is_handover limits.profile handover k l.0; short = short; message = (v.runs, b) };
       each = λ index out x.
           let same = runs_once bytes x.runs v.runs x.message b in
           let a = link_at (map run_record v.runs) (alternatives x.items) links index x.carrier (same_links one limits.profile (map run_record v.runs) x.items handover.payload links l.1 x.records) x.is_carrier in

@@ -13,7 +13,6 @@ ghost use Rattle.ndef_c.specs.Writes.{RecordsMakeAMessage};
 
 use ndef_lang::RecordLanguage;
 use ndef_message::{answers_are_exact, steps_are_exact, views_are_exact, writing_is_spelling};
-use ndef_nest::strict_contents_are_read;
 use ndef_types::{alternatives_are_exact, texts_are_exact, uris_are_exact};
 use ndef_value::one_meaning;
 
@@ -70,7 +69,6 @@ pub fn links_are_exact<L: RecordLanguage>()
     ensures { LinksAreExact L.payloads L.reasons }
 {
     one_meaning();
-    strict_contents_are_read();
     alternatives_are_exact();
 }
 
