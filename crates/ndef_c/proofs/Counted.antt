@@ -8,13 +8,16 @@ use Rattle.ndef_format.specs.Records.{AreOctets}
 use Rattle.std.proofs.lemmas.List.{length-map, length-take-le, take-append-drop, take_more}
 use Rattle.std.proofs.lemmas.List.Folds.{flat_map-map}
 use Rattle.std.proofs.lemmas.Grind.{flat_map-append}
-use Rattle.ndef_types.specs.Values.{AcValue, IsAcValue, IsReference, ac_payload, counted, power_code}
+use Rattle.std.specs.Prelude.{Ok}
+use Rattle.ndef_format.specs.Handovers.{IsAlternative}
+use Rattle.ndef_format.specs.Reasons.{NoReason}
+use Rattle.ndef_types.specs.Decoding.{AreExact, WritesPayloads}
+use Rattle.ndef_types.specs.Values.{AcValue, IsAcValue, IsReference, StandsForAc, WritesAc, ac_payload, counted, power_code}
 use Rattle.ndef_types.specs.declared.power.Power.{Power}
 use Rattle.ndef_types.specs.declared.power.Power.TheVariants.{Inactive, Active, Activating, Unknown}
 use Rattle.ndef_c.specs.AlternativeWrites.{GivesAlternative, IsAlternativeOf, MayBeAlternative, MayBeReference, WritesAlternative, counted_part, part_of}
 use Rattle.ndef_c.specs.Contents.{alternative_payload}
 use Rattle.ndef_c.specs.Buffers.{Gives}
-use Rattle.ndef_c.proofs.AlternativePayload.{payload_in_set, payload_stands}
 use Rattle.ndef_c.specs.declared.part.NdefPart.{NdefPart}
 
 pub part_length : (bytes : List ℕ) (part : NdefPart) → MayBeReference (length bytes) part → length (part_of bytes part) ≡ part.length
@@ -78,8 +81,12 @@ is_alternative_of power bytes reference auxiliary a may =
     }
 
 -- what is written for it
-pub writes_alternative : (v : AcValue) → IsAcValue v → WritesAlternative v (ac_payload v)
-writes_alternative v h = record { is = refl; in_set = payload_in_set v h; stands = payload_stands v }
+writes_alternative : AreExact IsAlternative (λ s b. NoReason) StandsForAc IsAcValue WritesAc → WritesPayloads IsAlternative IsAcValue WritesAc → (v : AcValue) → IsAcValue v → length (ac_payload v) < 2 ^ 32 → WritesAlternative v (ac_payload v)
+writes_alternative exact written v h short =
+    let set = written v (ac_payload v) h refl in
+    let w = exact.each (ac_payload v) set in
+    let back = exact.round_trip v (ac_payload v) (Ok w.0) h refl short (short, set, w.1.1) in
+    record { is = refl; in_set = set; stands = subst (StandsForAc (ac_payload v)) back w.1.1 }
 
 -- its payload, part by part
 abbrev pub put_parts : (power : ℕ) (bytes : List ℕ) (reference : NdefPart) (auxiliary : List NdefPart) → List ℕ
@@ -124,19 +131,20 @@ alternative_short power bytes (reference ∷ auxiliary) may =
     omega (arith, n, bound, few, one)
 
 -- what is given of these octets is what is written for the alternative carrier
-pub gives_alternative : (power : ℕ) (bytes : List ℕ) (parts : List NdefPart) → AreOctets bytes → MayBeAlternative power bytes parts → (before after : List ℕ) (count status : ℕ)
+pub gives_alternative : AreExact IsAlternative (λ s b. NoReason) StandsForAc IsAcValue WritesAc → WritesPayloads IsAlternative IsAcValue WritesAc → (power : ℕ) (bytes : List ℕ) (parts : List NdefPart) → AreOctets bytes → MayBeAlternative power bytes parts → (before after : List ℕ) (count status : ℕ)
     → Gives (alternative_payload power bytes parts) before after count status → GivesAlternative power bytes parts before after count status
-gives_alternative power bytes [] a may before after count status g = let some = may.some in absurd (omega (arith, some))
-gives_alternative power bytes (reference ∷ auxiliary) a may before after count status g =
+gives_alternative exact written power bytes [] a may before after count status g = let some = may.some in absurd (omega (arith, some))
+gives_alternative exact written power bytes (reference ∷ auxiliary) a may before after count status g =
     let is = is_alternative_of power bytes reference auxiliary a may in
     let same = payload_of power bytes reference auxiliary may.two_bits in
+    let short = subst (λ t. length t < 2 ^ 32) same (alternative_short power bytes (reference ∷ auxiliary) may) in
     record {
       alternative = alternative_of power bytes reference auxiliary;
       is = is;
       gives = record {
         payload = ac_payload (alternative_of power bytes reference auxiliary);
-        is = writes_alternative (alternative_of power bytes reference auxiliary) is.value;
-        short = subst (λ t. length t < 2 ^ 32) same (alternative_short power bytes (reference ∷ auxiliary) may);
+        is = writes_alternative exact written (alternative_of power bytes reference auxiliary) is.value short;
+        short = short;
         gives = subst (λ t. Gives t before after count status) same g;
       };
     }

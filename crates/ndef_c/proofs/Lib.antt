@@ -1,5 +1,4 @@
 pub mod Ahead
-pub mod AlternativePayload
 pub mod Alternatives
 pub mod Built
 pub mod Carriers

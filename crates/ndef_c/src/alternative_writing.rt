@@ -9,6 +9,7 @@ use crate::content::{Content, give_content};
 use crate::out::Out;
 use crate::part::NdefPart;
 use crate::status::BAD_ARGUMENT;
+use ndef_types::alternatives_are_exact;
 
 /// Whether a part is a reference: it lies within the bytes, and has up to 255 of them.
 fn is_reference(bytes: &[u8], part: &NdefPart) -> bool
@@ -108,6 +109,8 @@ pub extern "C" fn ndef_write_alternative<'a>(
     ensures payload { MayBeAlternative power bytes.now parts.now
         → GivesAlternative power bytes.now parts.now buffer.old buffer.new count.new result }
 {
+    // For the proof alone.
+    alternatives_are_exact();
     let Some(content) = alternative_content(power, bytes, parts) else {
         return BAD_ARGUMENT;
     };
