@@ -1,13 +1,11 @@
 //! The payloads of URI records (RTD URI 1.0).
-ghost use Rattle.std.specs.Prelude.{◌≡◌, ◌≢◌, ◌<◌, ◌^◌, ◌↔◌, ◌⊎◌, ℕ, List, length, IsUtf8};
-ghost use Rattle.ndef_format.specs.declared.profile.Profile.{Profile};
+ghost use Rattle.std.specs.Prelude.{◌≡◌, ◌≢◌, ◌<◌, ◌↔◌, ◌⊎◌, IsUtf8};
 ghost use Rattle.ndef_format.specs.Uris.{IsUri};
 ghost use Rattle.ndef_format.specs.PayloadReasons.{UriReason};
 ghost use Rattle.ndef_types.specs.Decoding.{IsTooLong};
-ghost use Rattle.ndef_types.specs.Values.{StandsForUri, WritesUri};
+ghost use Rattle.ndef_types.specs.Values.{WritesUri};
 ghost use Rattle.ndef_c.specs.Checks.{profile_of};
 ghost use Rattle.ndef_c.specs.Payloads.{GivesFor, GivesUri, RefusesWith};
-ghost use Rattle.ndef_c.specs.Buffers.{Gives};
 
 use crate::buffer::give_parts;
 use crate::checking::NdefChecked;
@@ -16,18 +14,6 @@ use crate::refusal::accepts;
 use crate::status::{BAD_ARGUMENT, REFUSED};
 use ndef_lang::{Kind, Leaf};
 use ndef_types::{prefix, split};
-
-/// Writes the URI of a payload to the buffer.
-fn give_uri(payload: &[u8], buffer: &mut [u8], count: &mut usize) -> u32
-    requires uri { (profile : Profile) × IsUri profile payload.now }
-    requires short { length payload.now < 2 ^ 32 }
-    ensures { (uri : List ℕ) × StandsForUri payload.now uri × Gives uri buffer.old buffer.new count.new result }
-{
-    let [code, rest @ ..] = payload else {
-        unreachable!()
-    };
-    give_parts(&[], prefix(*code).as_bytes(), rest, buffer, count)
-}
 
 /// Writes the URI that the payload of a URI record holds, its prefix written out, to the buffer.
 #[unsafe(no_mangle)]
@@ -52,7 +38,10 @@ pub extern "C" fn ndef_uri(
     if !accepts::<Leaf>(Kind::Uri, flags, payload, refusal) {
         return REFUSED;
     }
-    give_uri(payload, buffer, count)
+    let [code, rest @ ..] = payload else {
+        unreachable!()
+    };
+    give_parts(&[], prefix(*code).as_bytes(), rest, buffer, count)
 }
 
 /// Writes the payload of a URI record, by the longest prefix that begins the URI, to the buffer.
