@@ -1,5 +1,5 @@
 -- The titles of posters.
-use Rattle.std.proofs.Common.{◌≡◌, ℕ, ◌+◌, ◌-◌, ◌≤◌, Bool, true, true≢false, List, ◌∷◌, ◌++◌, length, take, drop, refl, sym, ◌∙◌, ap, ap₂, subst, arith}
+use Rattle.std.proofs.Common.{◌≡◌, ℕ, ◌+◌, ◌-◌, ◌≤◌, Bool, true, true≢false, List, ◌∷◌, ◌++◌, length, take, drop, refl, sym, ◌∙◌, ap, subst, arith}
 use Rattle.std.specs.Prelude.{slice_get}
 use Rattle.std.proofs.lemmas.List.{drop-drop, drop-take, take-take}
 use Rattle.ndef_format.specs.Messages.{Item}
@@ -9,7 +9,6 @@ use Rattle.ndef_format.specs.declared.kind.Kind.{Kind}
 use Rattle.ndef_format.specs.declared.kind.Kind.TheVariants as kinds
 use Rattle.ndef_format.specs.declared.profile.Profile.TheVariants.{Standard}
 use Rattle.ndef_format.specs.declared.table.Table.TheVariants.{SmartPoster}
-use Rattle.ndef_format.specs.declared.tnf.Tnf.{Tnf}
 use Rattle.ndef_types.specs.Contents.{IsOfKind}
 use Rattle.ndef_types.specs.ContentsLaws.{has_at}
 use Rattle.ndef_types.specs.Posters.{is_text}
@@ -20,9 +19,6 @@ use Rattle.ndef_c.proofs.Ahead.{get_after}
 
 abbrev pub is_title : Item → Bool
 is_title i = is_text (kind_in SmartPoster i.tnf i.kind)
-
-pub title_is : (i : Item) (tnf : Tnf) (kind : List ℕ) → tnf ≡ i.tnf → kind ≡ i.kind → is_title i ≡ is_text (kind_in SmartPoster tnf kind)
-title_is i tnf kind e f = sym (ap₂ (λ t k. is_text (kind_in SmartPoster t k)) e f)
 
 text_kind : (kind : Kind) → is_text kind ≡ true → kind ≡ kinds.Text
 text_kind kinds.Text e = refl

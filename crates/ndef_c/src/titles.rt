@@ -15,8 +15,8 @@ ghost use Rattle.ndef_c.specs.Walks.{IsRecordAt, Lies};
 
 use crate::nested::first_of;
 use crate::part::NdefPart;
-use crate::query::{Expected, RecordQuery, give_all};
-use crate::record::{NdefRecord, part_in, tnf_in, type_in};
+use crate::query::{Expected, RecordQuery, give_all, wants};
+use crate::record::{NdefRecord, part_in};
 use crate::refusal::is_payload;
 use crate::status::{BAD_ARGUMENT, END, OK};
 use crate::text::{NdefText, text_at};
@@ -30,16 +30,6 @@ pub(crate) fn is_poster(payload: &[u8]) -> bool
     ensures { IsTrue result ↔ IsPosterPayload payload.now }
 {
     is_payload::<Nest>(Kind::SmartPoster, Profile::Standard, payload)
-}
-
-/// Whether the records of a poster with a type are titles.
-fn is_title(tnf: Tnf, kind: &[u8]) -> bool
-    ensures { result ≡ is_text (kind_in tables.SmartPoster tnf kind.now) }
-{
-    match Table::SmartPoster.kind(tnf, kind) {
-        Kind::Text => true,
-        _ => false,
-    }
 }
 
 /// Returns the places of the parts of a text, which is the payload of a record in one piece.
@@ -71,7 +61,10 @@ impl<'a> Expected for Titles<'a> {
     fn is_expected(tnf: Tnf, kind: &[u8]) -> bool
         ensures { result ≡ is_text (kind_in tables.SmartPoster tnf kind.now) }
     {
-        is_title(tnf, kind)
+        match Table::SmartPoster.kind(tnf, kind) {
+            Kind::Text => true,
+            _ => false,
+        }
     }
 }
 
@@ -154,7 +147,7 @@ fn title_in(payload: &[u8], language: &[u8]) -> Option<NdefText>
     ensures some { IfSome result (FindsTitle language.now payload.now) }
 {
     for found in Walk::from(payload, 0) {
-        if is_title(tnf_in(&found), type_in(payload, &found)) {
+        if wants::<Titles>(payload, &found) {
             let text = text_of(payload, &found);
             if is_language(payload, &text, language) {
                 return Some(text);

@@ -7,19 +7,15 @@ use Rattle.ndef_c.proofs.titles.text_of.Goals as goal
 pub part_in-requires : goal.part_in-requires
 part_in-requires c = (c.requires.text.0, c.requires.text.1)
 
-pub text_at-text-requires-clause-text : goal.text_at-text-requires-clause-text
-text_at-text-requires-clause-text c =
+pub text_at-text-requires : goal.text_at-text-requires
+text_at-text-requires c =
     let t = c.requires.text in
-    subst IsText (sym (c.part_in.ensures t.0 t.1)) t.2
-
-pub text_at-text-requires-clause-short : goal.text_at-text-requires-clause-short
-text_at-text-requires-clause-short c =
-    let t = c.requires.text in
-    let e = ap length (c.part_in.ensures t.0 t.1) in
+    let part = c.part_in.ensures t.0 t.1 in
+    let e = ap length part in
     let n = t.1.part.count_is in
     let l = t.1.part.within in
     let bound = c.requires.bound in
-    omega (arith, e, n, l, bound)
+    record { text = subst IsText (sym part) t.2; short = omega (arith, e, n, l, bound) }
 
 pub returns : goal.returns
 returns c = λ at r.

@@ -6,7 +6,7 @@ use Rattle.ndef_types.specs.Contents.{Lack}
 use Rattle.ndef_c.specs.Titles.{IsTitleIn, LiesAsText}
 use Rattle.ndef_c.proofs.Ahead.{ahead_in, all_done, first_is, lack_on, reached}
 use Rattle.ndef_c.proofs.Posters.{in_pieces}
-use Rattle.ndef_c.proofs.TitleTexts.{is_title, is_title_of, of_text, poster_of, title_is, title_text}
+use Rattle.ndef_c.proofs.TitleTexts.{is_title, is_title_of, of_text, poster_of, title_text}
 use Rattle.ndef_c.proofs.Walking.{begins, here}
 use Rattle.ndef_c.proofs.titles.title_in.Goals as goal
 
@@ -23,24 +23,18 @@ loop-found-init c =
       lack = tt;
     }
 
-pub tnf_in-requires : goal.tnf_in-requires
-tnf_in-requires c = let h = here c.args.payload.now _ c.in-Some.found _ c.in-Some.ensures.steps c.loop-found.invariant.same in (_, _, h.there)
+pub wants-requires : goal.wants-requires
+wants-requires c = let h = here c.args.payload.now _ c.in-Some.found _ c.in-Some.ensures.steps c.loop-found.invariant.same in (_, h.there)
 
-pub type_in-requires : goal.type_in-requires
-type_in-requires c = let h = here c.args.payload.now _ c.in-Some.found _ c.in-Some.ensures.steps c.loop-found.invariant.same in (_, h.there)
-
-pub text_of-text-requires-clause-text : goal.text_of-text-requires-clause-text
-text_of-text-requires-clause-text c =
+pub text_of-text-requires : goal.text_of-text-requires
+text_of-text-requires c =
     let payload = c.args.payload.now in
     let i = c.loop-found.invariant in
     let h = here payload _ c.in-Some.found _ c.in-Some.ensures.steps i.same in
     let r = reached i.ahead h in
     let item = run_record h.there.run in
-    let k = title_is item c.tnf_in.result c.type_in.result.now (c.tnf_in.ensures _ _ h.there) (c.type_in.ensures _ h.there) ∙ sym c.is_title.ensures ∙ c.if-is_title.true in
-    (_, h.there, subst IsText (sym r.one) (title_text i.items i.done payload item i.records r.within k))
-
-pub text_of-text-requires-clause-bound : goal.text_of-text-requires-clause-bound
-text_of-text-requires-clause-bound c = c.requires.short
+    let k = sym (c.wants.ensures _ h.there) ∙ c.if-wants.true in
+    record { text = (_, h.there, subst IsText (sym r.one) (title_text i.items i.done payload item i.records r.within k)); bound = c.requires.short }
 
 pub is_language-requires : goal.is_language-requires
 is_language-requires c =
@@ -54,7 +48,7 @@ returns-then-is_language-clause-some c =
     let h = here payload _ c.in-Some.found _ c.in-Some.ensures.steps i.same in
     let r = reached i.ahead h in
     let item = run_record h.there.run in
-    let k = title_is item c.tnf_in.result c.type_in.result.now (c.tnf_in.ensures _ _ h.there) (c.type_in.ensures _ h.there) ∙ sym c.is_title.ensures ∙ c.if-is_title.true in
+    let k = sym (c.wants.ensures _ h.there) ∙ c.if-wants.true in
     let is = subst (λ p. LiesAsText payload p c.in-Some.found.payload_at c.text_of-text.result) r.one (c.text_of-text.ensures _ h.there) in
     let title : IsTitleIn c.args.language.now item = record { title = of_text item k; same = sym (c.is_language.ensures _ is.language) ∙ c.if-is_language.true } in
     record {
@@ -91,14 +85,14 @@ loop-found-preserved c =
     let h = here c.args.payload.now _ c.in-Some.found _ c.in-Some.ensures.steps i.same in
     let r = reached i.ahead h in
     let item = run_record h.there.run in
-    let k : is_title item ≡ c.is_title.result = title_is item c.tnf_in.result c.type_in.result.now (c.tnf_in.ensures _ _ h.there) (c.type_in.ensures _ h.there) ∙ sym c.is_title.ensures in
+    let k : is_title item ≡ c.wants.result = sym (c.wants.ensures _ h.there) in
     record {
       items = i.items;
       records = i.records;
       same = h.same;
       done = i.done ++ item ∷ [];
       ahead = r.next;
-      lack = lack_on (IsTitleIn c.args.language.now) i.done item i.lack (λ t. true≢false (sym (is_title_of item t.title) ∙ k ∙ c.if-is_title.false));
+      lack = lack_on (IsTitleIn c.args.language.now) i.done item i.lack (λ t. true≢false (sym (is_title_of item t.title) ∙ k ∙ c.if-wants.false));
     }
 
 pub returns-clause-none : goal.returns-clause-none

@@ -6,13 +6,11 @@ use Rattle.ndef_c.proofs.Filtered.{index_of_expected}
 use Rattle.ndef_c.proofs.TitleTexts.{is_title, title_text}
 use Rattle.ndef_c.proofs.titles.TitlesRecordQuery.given.Goals as goal
 
-pub text_of-requires-clause-text : goal.text_of-requires-clause-text
-text_of-requires-clause-text c =
+pub text_of-requires : goal.text_of-requires
+text_of-requires c =
     let w = c.requires.3 in
-    (w.from, w.there, subst IsText (sym w.one) (title_text c.requires.0 w.before c.args.self.now.payload.now (run_record w.there.run) c.requires.2.0 (w.after, w.all) w.is_expected))
-
-pub text_of-requires-clause-bound : goal.text_of-requires-clause-bound
-text_of-requires-clause-bound c = c.requires.2.1
+    let text = title_text c.requires.0 w.before c.args.self.now.payload.now (run_record w.there.run) c.requires.2.0 (w.after, w.all) w.is_expected in
+    record { text = (w.from, w.there, subst IsText (sym w.one) text); bound = c.requires.2.1 }
 
 pub returns : goal.returns
 returns c = λ items index h w.
