@@ -58,50 +58,6 @@ fn handover_table(kind: u32) -> Option<Table>
     }
 }
 
-/// A request, with the number of its references.
-fn request_of(payload: &[u8], references: usize) -> NdefHandoverParts
-    requires nest { (profile : Profile) × IsNest tables.Request MOST_RECORDS profile payload.now }
-    requires short { length payload.now < 2 ^ 32 }
-    ensures references { result.references ≡ references }
-    ensures tells { (profile : Profile) → IsNest tables.Request MOST_RECORDS profile payload.now
-        → TellsHandover tables.Request profile payload.now result }
-{
-    let request = request_at(payload);
-    NdefHandoverParts {
-        carriers: request.carriers,
-        references,
-        detail_at: 0,
-        detail_length: 0,
-        major: request.major,
-        minor: request.minor,
-        collision: request.collision,
-        has_error: 0,
-        error: 0,
-    }
-}
-
-/// A select, with the number of its references.
-fn select_of(payload: &[u8], references: usize) -> NdefHandoverParts
-    requires nest { (profile : Profile) × IsNest tables.Select MOST_RECORDS profile payload.now }
-    requires short { length payload.now < 2 ^ 32 }
-    ensures references { result.references ≡ references }
-    ensures tells { (profile : Profile) → IsNest tables.Select MOST_RECORDS profile payload.now
-        → TellsHandover tables.Select profile payload.now result }
-{
-    let select = select_at(payload);
-    NdefHandoverParts {
-        carriers: select.carriers,
-        references,
-        detail_at: select.detail_at,
-        detail_length: select.detail_length,
-        major: select.major,
-        minor: select.minor,
-        collision: 0,
-        has_error: select.has_error,
-        error: select.error,
-    }
-}
-
 /// A handover, with the number of its references.
 fn handover_of(table: Table, payload: &[u8]) -> NdefHandoverParts
     requires handover { table ≢ tables.SmartPoster }
@@ -114,8 +70,34 @@ fn handover_of(table: Table, payload: &[u8]) -> NdefHandoverParts
 {
     let references = count_references(payload);
     match table {
-        Table::Request => request_of(payload, references),
-        Table::Select => select_of(payload, references),
+        Table::Request => {
+            let request = request_at(payload);
+            NdefHandoverParts {
+                carriers: request.carriers,
+                references,
+                detail_at: 0,
+                detail_length: 0,
+                major: request.major,
+                minor: request.minor,
+                collision: request.collision,
+                has_error: 0,
+                error: 0,
+            }
+        }
+        Table::Select => {
+            let select = select_at(payload);
+            NdefHandoverParts {
+                carriers: select.carriers,
+                references,
+                detail_at: select.detail_at,
+                detail_length: select.detail_length,
+                major: select.major,
+                minor: select.minor,
+                collision: 0,
+                has_error: select.has_error,
+                error: select.error,
+            }
+        }
         Table::SmartPoster => unreachable!(),
     }
 }
