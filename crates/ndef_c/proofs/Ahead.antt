@@ -3,6 +3,7 @@ use Rattle.std.proofs.Common.{◌≡◌, ℕ, suc, ◌+◌, ◌∷◌, [], take,
 use Rattle.std.specs.List.{AllByRecursion}
 use Rattle.std.specs.Prelude.{◌==◌, true, slice_get}
 use Rattle.std.proofs.lemmas.List.{drop-drop, map-append}
+use Rattle.ndef_value.specs.ListLaws.{all_back}
 use Rattle.ndef_format.specs.Messages.{BeginsOnce, Item, SpellsPieces, all_pieces, payload_of, run_record}
 use Rattle.ndef_format.specs.Records.{Follow, Piece, Run}
 use Rattle.ndef_format.specs.declared.profile.Profile.{Profile}
@@ -75,10 +76,6 @@ ahead_in profile items bytes {w} b (inr h) =
       };
     }
 
-all_at : (P : Run → Type 0) (xs : List Run) (x : Run) (ys : List Run) → AllByRecursion P (xs ++ x ∷ ys) → P x
-all_at P [] x ys h = h.0
-all_at P (y ∷ xs) x ys h = all_at P xs x ys h.1
-
 -- a run of one piece has the payload of it, and ends where it ends
 one_payload : (r : Run) → r.later ≡ [] → r.initial.payload ≡ (run_record r).payload
 one_payload r e = sym (ap (λ ps. r.initial.payload ++ payload_of ps) e ∙ append-nil r.initial.payload)
@@ -101,7 +98,7 @@ reached {items} {done} {bytes} {w} {r} {after} k h =
     let run = h.there.run in
     let o = onward k.left h in
     let all : items ≡ map run_record k.passed ++ run_record run ∷ map run_record o.more = k.are ∙ ap (map run_record) o.all ∙ map-append run_record k.passed (run ∷ o.more) in
-    let single : run.later ≡ [] = all_at (λ r. r.later ≡ []) k.passed run o.more (subst (AllByRecursion (λ r. r.later ≡ [])) o.all k.single) in
+    let single : run.later ≡ [] = (all_back (λ r. r.later ≡ []) k.passed (run ∷ o.more) (subst (AllByRecursion (λ r. r.later ≡ [])) o.all k.single)).0 in
     let same = one_payload run single in
     let place : r.payload_at + r.part_length ≡ r.payload_at + length (run_record run).payload = ap (λ n. r.payload_at + n) (h.there.part.count_is ∙ ap length same) in
     record {

@@ -1,5 +1,5 @@
 -- Fields that follow one another without a gap.
-use Rattle.std.proofs.Common.{◌≡◌, ℕ, ◌+◌, ◌<◌, ◌≤◌, List, [], ◌∷◌, ◌++◌, length, length-append, refl, ◌∙◌, ap, subst, arith}
+use Rattle.std.proofs.Common.{◌≡◌, ℕ, ◌+◌, ◌<◌, ◌≤◌, List, [], ◌∷◌, ◌++◌, length, length-append, ◌∙◌, ap, subst, arith, sym, append_assoc}
 use Rattle.ndef_fields.specs.FieldLaws.{AreGapless}
 use Rattle.ndef_fields.specs.declared.field.Field.{Field}
 use Rattle.ndef_c.specs.Fields.{OneFieldWith, StepsLeadOn}
@@ -96,10 +96,6 @@ next_begins (t ∷ reported) (b ∷ before) following at end f g h e =
     let rest : reported ≡ before ++ f ∷ g ∷ following = cc in
     next_begins reported before following (at + t.length) end f g h.2 rest
 
-regroup : (before following : List Field) (f g : Field) → before ++ f ∷ g ∷ following ≡ (before ++ f ∷ []) ++ g ∷ following
-regroup [] following f g = refl
-regroup (b ∷ before) following f g = ap (λ fs. b ∷ fs) (regroup before following f g)
-
 pub steps_lead_on : StepsLeadOn
 steps_lead_on reported before following end f g h e =
     let n = next_begins reported before following 0 end f g h e in
@@ -108,7 +104,7 @@ steps_lead_on reported before following end f g h e =
     record {
       before = before ++ f ∷ [];
       following = following;
-      split = e ∙ regroup before following f g;
+      split = e ∙ sym (append_assoc before (f ∷ []) (g ∷ following));
       from = omega (arith, begins);
       to = omega (arith, begins, some);
     }

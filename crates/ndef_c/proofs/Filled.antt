@@ -1,6 +1,6 @@
 -- An array that is filled from its front.
-use Rattle.std.proofs.Common.{◌≡◌, ℕ, zero, suc, ◌+◌, ◌<◌, ◌≤◌, List, [], ◌∷◌, ◌++◌, length, length-append, length-drop, drop, drop_at, take, take_at, refl, sym, ◌∙◌, ap, subst, arith, Some}
-use Rattle.std.specs.Prelude.{slice_get, slice_set}
+use Rattle.std.proofs.Common.{◌≡◌, ℕ, ◌+◌, ◌<◌, ◌≤◌, List, [], ◌∷◌, ◌++◌, length, length-append, length-drop, drop, drop_at, take, take_at, refl, sym, ◌∙◌, ap, subst, arith}
+use Rattle.std.specs.Prelude.{slice_set}
 use Rattle.ndef_c.specs.Arrays.{EachAt, GivesMany, set_over}
 use Rattle.ndef_c.specs.declared.status.TheConstants.{OK, BUFFER_TOO_SMALL}
 
@@ -54,9 +54,3 @@ pub is_enough : {T : Type 0} (holds : List T → Type 0) (many : ℕ) (old new :
     → GivesMany holds many old new count OK
 is_enough holds many old new count n h reported are size e =
     record { count_is = n; fits = λ _. (refl, reported, are, size, e); too_small = λ l. absurd (omega (arith, n, h, l)) }
-
--- an index at which there is an element
-pub get_within : {T : Type 0} (xs : List T) (k : ℕ) (x : T) → slice_get xs k ≡ Some x → k < length xs
-get_within [] k x e = absurd (cc)
-get_within (y ∷ xs) zero x e = omega arith
-get_within (y ∷ xs) (suc k) x e = let n = get_within xs k x e in omega (arith, n)

@@ -103,7 +103,7 @@ record_differs form first size m at l =
 
 -- ---- the records that others follow
 
-none_opens : (records : List Appended) → opens false records ≡ false
+pub none_opens : (records : List Appended) → opens false records ≡ false
 none_opens [] = refl
 none_opens (a ∷ records) = refl
 

@@ -5,6 +5,7 @@ use Rattle.std.proofs.lemmas.List.Elements.{recursion_from_All}
 use Rattle.std.specs.Int.{w16, to_be_bytes}
 use Rattle.std.specs.List.{AllByRecursion}
 use Rattle.std.specs.Prelude.{if◌then◌else◌}
+use Rattle.ndef_value.specs.ListLaws.{all_append}
 use Rattle.ndef_format.specs.Handovers.{IsAlternative}
 use Rattle.ndef_format.specs.Messages.{Item}
 use Rattle.ndef_format.specs.Records.{AreOctets}
@@ -23,7 +24,7 @@ use Rattle.ndef_c.specs.declared.handover_making.NdefSelectWriting.{NdefSelectWr
 use Rattle.ndef_c.specs.declared.handover_parts.NdefAlternativeWriting.{NdefAlternativeWriting}
 use Rattle.ndef_c.specs.declared.part.NdefPart.{NdefPart}
 use Rattle.ndef_c.proofs.Counted.{alternative_of, alternative_short, is_alternative_of, payload_of}
-use Rattle.ndef_c.proofs.NestedRecords.{HasPayload, IsMember, IsNamed, all_joined, are_items, each_payload, member_of, number_octets}
+use Rattle.ndef_c.proofs.NestedRecords.{HasPayload, IsMember, IsNamed, are_items, each_payload, member_of, number_octets}
 
 -- ---- alternative carriers
 
@@ -97,4 +98,4 @@ pub selects_read : AlternativesAreWritten → WrittenSelectsAreRead
 selects_read written s may octets =
     let carriers = are_members written Select alternative_of_select s.carriers octets may.carriers in
     let error = error_member s.how s.carriers.bytes may.error in
-    record { minor = may.four_bits; message = are_selected (select_items s) (all_joined (IsMember Select) (carrier_items s.carriers) (error_items s.how s.carriers.bytes) carriers error) may.few }
+    record { minor = may.four_bits; message = are_selected (select_items s) (all_append (IsMember Select) (carrier_items s.carriers) (error_items s.how s.carriers.bytes) carriers error) may.few }

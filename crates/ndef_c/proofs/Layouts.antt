@@ -5,7 +5,8 @@ use Rattle.std.specs.List.{AllByRecursion}
 use Rattle.std.proofs.Math.Seq.{drop-append_seam, take-append-add}
 use Rattle.std.proofs.lemmas.Bool.{le-ltb}
 use Rattle.std.proofs.lemmas.List.{get_or-append-add, length-append, length-drop, length-take-le, take-append-drop}
-use Rattle.ndef_format.specs.Octets.{Counted, IsOctet, Octets}
+use Rattle.ndef_value.specs.ListLaws.{octets_back, octets_taken}
+use Rattle.ndef_format.specs.Octets.{IsOctet, Octets}
 use Rattle.ndef_format.specs.Reasons.{IsLowest, NoReason, rank_of}
 use Rattle.ndef_format.specs.Records.{AreOctets}
 use Rattle.ndef_format.specs.declared.reason.Reason.{Reason}
@@ -56,11 +57,6 @@ passes_split : (passes : ℕ → Type 0) (set : List ℕ → Type 0) (n : ℕ) (
 passes_split passes set zero s h = (omega arith, h)
 passes_split passes set (suc n) [] h = absurd h
 passes_split passes set (suc n) (b ∷ s) h = let more = passes_split passes set n s h.1 in (omega (arith, more.0), more.1)
-
-octets_take : (n : ℕ) (s : List ℕ) → AreOctets s → AreOctets (take n s)
-octets_take zero s h = tt
-octets_take (suc n) [] h = tt
-octets_take (suc n) (b ∷ s) h = (h.0, octets_take n s h.1)
 
 passes_some : (set : List ℕ → Type 0) (n : ℕ) (r : List ℕ) → set r → (s : List ℕ) × Octets IsOctet n set s × (length s ≡ n + length r)
 passes_some set zero r h = (r, h, omega arith)
@@ -149,7 +145,7 @@ after_octets n more s octets fits =
     record {
       front = front;
       split = sym (take-append-drop n s);
-      future = λ r. subst (λ k. IsLaidOut more r ↔ Octets IsOctet k (IsLaidOut more) (front ++ r)) long (passes_front IsOctet (IsLaidOut more) front r (octets_take n s octets));
+      future = λ r. subst (λ k. IsLaidOut more r ↔ Octets IsOctet k (IsLaidOut more) (front ++ r)) long (passes_front IsOctet (IsLaidOut more) front r (octets_taken n s octets));
       fits = (omega (arith, fits.0, less), still fits.1 (λ most. omega (arith, most, less)));
       texts = λ t. past_no more front t n long;
     }
@@ -176,7 +172,7 @@ after_counted more n s octets enough fits =
       front = n ∷ front;
       split = ap (λ t. n ∷ t) (sym (take-append-drop n s));
       future = λ r.
-          let both = subst (λ k. IsLaidOut more r ↔ Octets IsOctet k (IsLaidOut more) (front ++ r)) long (passes_front IsOctet (IsLaidOut more) front r (octets_take n s octets.1)) in
+          let both = subst (λ k. IsLaidOut more r ↔ Octets IsOctet k (IsLaidOut more) (front ++ r)) long (passes_front IsOctet (IsLaidOut more) front r (octets_taken n s octets.1)) in
           (λ h. (octets.0, both.0 h), λ h. both.1 h.1);
       fits = subst (HasLaidLength more) (sym (length-drop n s)) fits;
       texts = λ t. past_no more front t n long;
@@ -329,11 +325,7 @@ laid_whole layout left payload rest g h = subst (IsLaidOut layout) (sym g.split)
 -- octets that go to the end
 pub rest_laid : (layout left more : List Field) (payload rest : List ℕ) → AreOctets payload → GoesOn layout left payload rest → left ≡ fields.Rest ∷ more → IsLaidOut layout payload
 rest_laid layout left more payload rest octets g is =
-    laid_whole layout left payload rest g (subst (λ l. IsLaidOut l rest) (sym is) (octets_after g.front rest (subst AreOctets g.split octets)))
-  where
-    octets_after : (front rest : List ℕ) → AreOctets (front ++ rest) → AreOctets rest
-    octets_after [] rest all = all
-    octets_after (b ∷ front) rest all = octets_after front rest all.1
+    laid_whole layout left payload rest g (subst (λ l. IsLaidOut l rest) (sym is) (octets_back g.front rest (subst AreOctets g.split octets)))
 
 pub text_refused : (layout left : List Field) (payload rest : List ℕ) (before : ℕ) (r : Option Refusal) → GoesOn layout left payload rest → left ≡ fields.Utf8 ∷ []
     → before ≡ length payload - length rest → IfSome r (IsRefusedText rest before) → IfSome r (IsRefusedIn layout payload)

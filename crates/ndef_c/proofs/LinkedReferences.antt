@@ -5,12 +5,12 @@ use Rattle.std.specs.List.Sorted.{IsPartitionPoint, IsPartitionedBy, IsSortedBy}
 use Rattle.std.specs.Ordering.{nat_cmp}
 use Rattle.std.specs.Prelude.{◌==◌, slice_get, slice_set}
 use Rattle.std.proofs.lemmas.Cmp.{nat_list_cmp_total}
-use Rattle.std.proofs.lemmas.List.{get_or-set_other, get_or-set_same, map-append}
+use Rattle.std.proofs.lemmas.List.{get_or-set_other, get_or-set_same, get_or_default, map-append}
 use Rattle.std.proofs.lemmas.List.Sorted.{searchable_from_sorted}
 use Rattle.std.proofs.lemmas.Slice.Eq.{bytes_eq-Decides}
 use Rattle.std.proofs.Math.Decide.{dec_lt}
 use Rattle.std.specs.Str.{bytes_eq}
-use Rattle.ndef_format.specs.Messages.{Item, run_record}
+use Rattle.ndef_format.specs.Messages.{run_record}
 use Rattle.ndef_format.specs.Records.{Run}
 use Rattle.ndef_types.specs.Contents.{IsFirstAt, Lack}
 use Rattle.ndef_types.specs.Links.{HasId, IsIndexOf}
@@ -65,11 +65,6 @@ none_linked payload id place items first k d up p l h f = by_name (bytes_eq (nam
     by_name true e = inr (f (head_is_first payload id items first k d up p l h ((bytes_eq-Decides (name_in payload (get_or items k d)) id).0 e)), refl)
     by_name false e = inr (inl (λ n. true≢false (sym ((bytes_eq-Decides (name_in payload (get_or items k d)) id).1 n) ∙ e)), refl)
 
-pub same_default : {X : Type 0} (xs : List X) (k : ℕ) (d e : X) → k < length xs → get_or xs k d ≡ get_or xs k e
-same_default [] k d e l = absurd (omega (arith, l))
-same_default (x ∷ xs) zero d e l = refl
-same_default (x ∷ xs) (suc k) d e l = same_default xs k d e (omega (arith, l))
-
 -- where the one at that place is given one, each other one is as it was
 pub one_linked : (payload id : List ℕ) (place : Place) (items : List NdefReferenceItem) (first k : ℕ) (d e new : NdefReferenceItem) → IsSortedBy (has_smaller_name payload) items
     → IsPartitionPoint (λ r. is_lt (slice_cmp nat_cmp (name_in payload r) id) ≡ true) (λ r. is_lt (slice_cmp nat_cmp (name_in payload r) id) ≡ false) items first
@@ -82,7 +77,7 @@ one_linked payload id place items first k d e new up p l h m name none tells = b
 
     here : k ≡ first → Links payload id place (get_or items k d) (get_or (slice_set items first new) k d)
     here f =
-        let one : get_or items k d ≡ get_or items first e = ap (λ j. get_or items j d) f ∙ same_default items first d e m in
+        let one : get_or items k d ≡ get_or items first e = ap (λ j. get_or items j d) f ∙ get_or_default items first d e m in
         let set : get_or (slice_set items first new) k d ≡ new = ap (λ j. get_or (slice_set items first new) j d) f ∙ get_or-set_same items first new d m in
         inl (ap (name_in payload) one ∙ name, ap (λ r. r.has_record) one ∙ none, subst (λ r. TellsPlace (Some place) r.has_record r.record_index r.record_at) (sym set) tells)
 
@@ -93,25 +88,15 @@ one_linked payload id place items first k d e new up p l h m name none tells = b
 
 -- ---- one more record
 
-at_still : (items : List Item) (i j : Item) (k : ℕ) → slice_get items k ≡ Some j → slice_get (items ++ i ∷ []) k ≡ Some j
-at_still [] i j k e = absurd (cc)
-at_still (x ∷ items) i j zero e = e
-at_still (x ∷ items) i j (suc k) e = at_still items i j k e
+at_still : {T : Type 0} (xs : List T) (x y : T) (k : ℕ) → slice_get xs k ≡ Some y → slice_get (xs ++ x ∷ []) k ≡ Some y
+at_still [] x y k e = absurd (cc)
+at_still (z ∷ xs) x y zero e = e
+at_still (z ∷ xs) x y (suc k) e = at_still xs x y k e
 
-runs_still : (runs : List Run) (r s : Run) (k : ℕ) → slice_get runs k ≡ Some s → slice_get (runs ++ r ∷ []) k ≡ Some s
-runs_still [] r s k e = absurd (cc)
-runs_still (x ∷ runs) r s zero e = e
-runs_still (x ∷ runs) r s (suc k) e = runs_still runs r s k e
-
-items_front : (items : List Item) (i j : Item) (k : ℕ) → slice_get items k ≡ Some j → take k (items ++ i ∷ []) ≡ take k items
-items_front [] i j k e = absurd (cc)
-items_front (x ∷ items) i j zero e = refl
-items_front (x ∷ items) i j (suc k) e = ap (λ xs. x ∷ xs) (items_front items i j k e)
-
-runs_front : (runs : List Run) (r s : Run) (k : ℕ) → slice_get runs k ≡ Some s → take k (runs ++ r ∷ []) ≡ take k runs
-runs_front [] r s k e = absurd (cc)
-runs_front (x ∷ runs) r s zero e = refl
-runs_front (x ∷ runs) r s (suc k) e = ap (λ xs. x ∷ xs) (runs_front runs r s k e)
+front_still : {T : Type 0} (xs : List T) (x y : T) (k : ℕ) → slice_get xs k ≡ Some y → take k (xs ++ x ∷ []) ≡ take k xs
+front_still [] x y k e = absurd (cc)
+front_still (z ∷ xs) x y zero e = refl
+front_still (z ∷ xs) x y (suc k) e = ap (λ zs. z ∷ zs) (front_still xs x y k e)
 
 -- what is found is found still
 found_still : (bytes : List ℕ) (done : List Run) (run : Run) (id : List ℕ) (p : Place) → FindsRecord bytes done id (Some p) → FindsRecord bytes (done ++ run ∷ []) id (Some p)
@@ -123,13 +108,13 @@ found_still bytes done run id p ((some, i, f), there) =
         subst (λ xs. IsFirstAt (HasId id) xs p.index i) (sym all) (record {
           at = at_still (map run_record done) (run_record run) i p.index f.at;
           has = f.has;
-          before = subst (Lack (HasId id)) (sym (items_front (map run_record done) (run_record run) i p.index f.at)) f.before;
+          before = subst (Lack (HasId id)) (sym (front_still (map run_record done) (run_record run) i p.index f.at)) f.before;
         }),
       ),
       record {
         run = there.run;
-        is = runs_still done run there.run p.index there.is;
-        before = subst (λ rs. LieBetween bytes 0 rs p.at) (sym (runs_front done run there.run p.index there.is)) there.before;
+        is = at_still done run there.run p.index there.is;
+        before = subst (λ rs. LieBetween bytes 0 rs p.at) (sym (front_still done run there.run p.index there.is)) there.before;
         rest = there.rest;
         begins = there.begins;
       },
@@ -216,14 +201,14 @@ unnamed (x ∷ s) b e t = absurd (true≢false (sym t ∙ e ∙ ne_eqb (length (
 pub not_alike : (payload : List ℕ) (old items : List NdefReferenceItem) (index : ℕ) (d e : NdefReferenceItem) → map without_record items ≡ map without_record old → 1 ≤ index → index < length items
     → name_in payload (get_or items (index - 1) d) ≢ name_in payload (get_or items index e) → IsHead payload old index
 not_alike payload old items index d e same some l other = inr (λ f n. other (
-    ap (name_in payload) (same_default items (index - 1) d f (omega (arith, l)))
+    ap (name_in payload) (get_or_default items (index - 1) d f (omega (arith, l)))
     ∙ same_name payload items old same (index - 1) f (omega (arith, l)) ∙ n ∙ sym (same_name payload items old same index f l)
-    ∙ ap (name_in payload) (same_default items index f e l)
+    ∙ ap (name_in payload) (get_or_default items index f e l)
     ))
 
 -- one that is gets its record
 pub refers_as : (bytes payload : List ℕ) (items : List NdefReferenceItem) (k : ℕ) (d e new : NdefReferenceItem) → k < length items → name_in payload (get_or items k e) ≡ name_in payload new → new.has_record ≡ (get_or items k e).has_record
     → new.record_index ≡ (get_or items k e).record_index → new.record_at ≡ (get_or items k e).record_at → Refers bytes payload (get_or items k d) → Refers bytes payload new
 refers_as bytes payload items k d e new l n h i a r = λ runs b.
-    let f = subst (RefersAmong bytes payload runs) (same_default items k d e l) (r runs b) in
+    let f = subst (RefersAmong bytes payload runs) (get_or_default items k d e l) (r runs b) in
     (f.0, subst (λ s. FindsRecord bytes runs s f.0) n f.1, rw (h, i, a) f.2)

@@ -3,6 +3,7 @@ use Rattle.std.proofs.Common.{◌≡◌, ℕ, zero, suc, ◌<◌, ◌≤◌, ◌
 use Rattle.std.specs.List.{flat_map, AllByRecursion}
 use Rattle.std.specs.Option.{ForSome}
 use Rattle.std.specs.Prelude.{unwrap_or, if◌then◌else◌}
+use Rattle.ndef_value.specs.ListLaws.{all_append}
 use Rattle.ndef_format.specs.Canonical.{AreItems, IsItem, written_id}
 use Rattle.ndef_format.specs.Messages.{BeginsOnce, EndsOnce, IsShaped, Item, SpellsPieces, all_pieces, payload_of, run_record}
 use Rattle.ndef_format.specs.Records.{AreOctets, Follow, IsPiece, IsRun, Piece, Run, code, pieces, tnf_of}
@@ -14,6 +15,7 @@ use Rattle.ndef_message.specs.Written.{PiecesAreSpelled, WrittenIsSpelled, is_sh
 use Rattle.ndef_c.specs.Built.{appended_octets}
 use Rattle.ndef_c.specs.Growing.{Appended, HeldAreAMessage, followed_octets, opens}
 use Rattle.ndef_c.specs.Writes.{form_of, record_octets, size_of}
+use Rattle.ndef_c.proofs.Growing.{none_opens}
 
 -- ---- a record, wherever it stands in its message
 
@@ -112,23 +114,19 @@ shapes (a ∷ xs) h = (h.0.shaped, shapes xs h.1)
 
 -- ---- where it begins and ends
 
-all-append : (P : Piece → Type 0) (ps qs : List Piece) → AllByRecursion P ps → AllByRecursion P qs → AllByRecursion P (ps ++ qs)
-all-append P [] qs a b = b
-all-append P (p ∷ ps) qs a b = (a.0, all-append P ps qs a.1 b)
-
 later_firsts : (last : Bool) (ps : List (List ℕ)) → AllByRecursion (λ q. q.first ≡ false) (later_pieces last ps)
 later_firsts last [] = tt
 later_firsts last (p ∷ ps) = (refl, later_firsts last ps)
 
 firsts : (records : List Appended) (last : Appended) → AllByRecursion (λ q. q.first ≡ false) (all_pieces (runs_of false records last))
-firsts [] last = all-append (λ q. q.first ≡ false) (pieces (cut_run false true (size_of last.how) last.item)) [] (refl, later_firsts true (later_parts (size_of last.how) last.item.payload)) tt
+firsts [] last = all_append (λ q. q.first ≡ false) (pieces (cut_run false true (size_of last.how) last.item)) [] (refl, later_firsts true (later_parts (size_of last.how) last.item.payload)) tt
 firsts (a ∷ others) last =
-    all-append (λ q. q.first ≡ false) (pieces (cut_run false false (size_of a.how) a.item)) _ (refl, later_firsts false (later_parts (size_of a.how) a.item.payload)) (firsts others last)
+    all_append (λ q. q.first ≡ false) (pieces (cut_run false false (size_of a.how) a.item)) _ (refl, later_firsts false (later_parts (size_of a.how) a.item.payload)) (firsts others last)
 
 begins : (records : List Appended) (last : Appended) → BeginsOnce (all_pieces (runs_of true records last))
-begins [] last = (refl, all-append (λ q. q.first ≡ false) (later_pieces true (later_parts (size_of last.how) last.item.payload)) [] (later_firsts true (later_parts (size_of last.how) last.item.payload)) tt)
+begins [] last = (refl, all_append (λ q. q.first ≡ false) (later_pieces true (later_parts (size_of last.how) last.item.payload)) [] (later_firsts true (later_parts (size_of last.how) last.item.payload)) tt)
 begins (a ∷ others) last =
-    (refl, all-append (λ q. q.first ≡ false) (later_pieces false (later_parts (size_of a.how) a.item.payload)) _ (later_firsts false (later_parts (size_of a.how) a.item.payload)) (firsts others last))
+    (refl, all_append (λ q. q.first ≡ false) (later_pieces false (later_parts (size_of a.how) a.item.payload)) _ (later_firsts false (later_parts (size_of a.how) a.item.payload)) (firsts others last))
 
 and_false : (b : Bool) → (b && false) ≡ false
 and_false true = refl
@@ -160,10 +158,6 @@ ends first (a ∷ others) last =
 
 -- ---- its octets
 
-opens_none : (records : List Appended) → opens false records ≡ false
-opens_none [] = refl
-opens_none (a ∷ others) = refl
-
 spells_all : PiecesAreSpelled → (form : Form) (ps : List Piece) → AllByRecursion IsPiece ps → SpellsPieces ps (flat_map (written_piece form) ps)
 spells_all by form [] h = refl
 spells_all by form (p ∷ ps) h = (is_short form (length p.payload), written_piece form p, flat_map (written_piece form) ps, refl, by form p h.0, spells_all by form ps h.1)
@@ -182,7 +176,7 @@ module _ (written : WrittenIsSpelled) (by : PiecesAreSpelled) (profile : Profile
       let s = spells_both (pieces (cut_run first false (size_of a.how) a.item)) _ front _
       (spells_all by (form_of a.how) (pieces (cut_run first false (size_of a.how) a.item)) (spelled_in written profile first false a h.0).are) (spelled false others last h.1) in
       subst (SpellsPieces (all_pieces (runs_of first (a ∷ others) last)))
-      (ap (λ o. front ++ (followed_octets false others ++ appended_octets o last.how last.item)) (opens_none others)
+      (ap (λ o. front ++ (followed_octets false others ++ appended_octets o last.how last.item)) (none_opens others)
       ∙ sym (append_assoc front (followed_octets false others) (appended_octets false last.how last.item))) s
 
 pub held_are_a_message : WrittenIsSpelled → PiecesAreSpelled → HeldAreAMessage

@@ -1,5 +1,5 @@
 -- Records that a strict reader takes in a nested message: their parts are octets, and their payloads those of their kinds.
-use Rattle.std.proofs.Common.{◌≡◌, ℕ, zero, suc, ◌/◌, ◌<◌, ◌≤◌, ◌^◌, List, [], ◌∷◌, ◌++◌, length, sym, subst, arith}
+use Rattle.std.proofs.Common.{◌≡◌, ℕ, zero, suc, ◌/◌, ◌<◌, ◌≤◌, ◌^◌, List, [], ◌∷◌, length, sym, subst, arith}
 use Rattle.std.specs.Int.{byte_at, bytes_high_first}
 use Rattle.std.specs.List.{AllByRecursion}
 use Rattle.ndef_format.specs.Canonical.{AreItems, IsItem}
@@ -29,10 +29,6 @@ each_payload table (i ∷ items) h = (h.0.payload, each_payload table items h.1)
 
 pub are_items : (table : Table) (i : Item) (items : List Item) → AllByRecursion (IsMember table) (i ∷ items) → length (i ∷ items) ≤ 65535 → AreItems (i ∷ items)
 are_items table i items h few = record { some = omega arith; few = few; each = each_item table (i ∷ items) h }
-
-pub all_joined : (P : Item → Type 0) (xs ys : List Item) → AllByRecursion P xs → AllByRecursion P ys → AllByRecursion P (xs ++ ys)
-all_joined P [] ys h k = k
-all_joined P (x ∷ xs) ys h k = (h.0, all_joined P xs ys h.1 k)
 
 -- ---- records of a kind
 

@@ -3,6 +3,7 @@ use Rattle.std.proofs.Common.{◌≡◌, ℕ, ◌+◌, ◌*◌, ◌≤◌, Bool,
 use Rattle.std.specs.List.{AllByRecursion}
 use Rattle.std.proofs.lemmas.List.{append_cancel_left, map-append}
 use Rattle.std.specs.Prelude.{option_map, unwrap_or}
+use Rattle.ndef_value.specs.ListLaws.{all_append, all_back}
 use Rattle.ndef_format.specs.Canonical.{written_id}
 use Rattle.ndef_format.specs.Messages.{Item, SpellsPieces, payload_of, run_record}
 use Rattle.ndef_format.specs.Records.{Piece, Run, body, fields, id_length_octets, octets, payload_length_octets, tnf_of}
@@ -66,20 +67,12 @@ none_more (r ∷ more) e = absurd (cc)
 
 -- ---- records that can be in one piece
 
-all-append : (P : Item → Type 0) (xs : List Item) (i : Item) → AllByRecursion P xs → P i → AllByRecursion P (xs ++ i ∷ [])
-all-append P [] i h p = (p, tt)
-all-append P (x ∷ xs) i h p = (h.0, all-append P xs i h.1 p)
-
 pub writable_on : (done : List Run) (run : Run) → AllByRecursion IsWritable (run_records done) → IsWritable (run_record run) → AllByRecursion IsWritable (run_records (done ++ run ∷ []))
-writable_on done run h p = subst (AllByRecursion IsWritable) (sym (map-append run_record done (run ∷ []))) (all-append IsWritable (run_records done) (run_record run) h p)
-
-all_there : (P : Item → Type 0) (xs : List Item) (i : Item) (more : List Item) → AllByRecursion P (xs ++ i ∷ more) → P i
-all_there P [] i more h = h.0
-all_there P (x ∷ xs) i more h = all_there P xs i more h.1
+writable_on done run h p = subst (AllByRecursion IsWritable) (sym (map-append run_record done (run ∷ []))) (all_append IsWritable (run_records done) (run_record run ∷ []) h (p, tt))
 
 pub writable_there : (runs done : List Run) (run : Run) (more : List Run) → runs ≡ done ++ run ∷ more → AllByRecursion IsWritable (run_records runs) → IsWritable (run_record run)
 writable_there runs done run more e h =
-    all_there IsWritable (run_records done) (run_record run) (run_records more) (subst (AllByRecursion IsWritable) (ap run_records e ∙ map-append run_record done (run ∷ more)) h)
+    (all_back IsWritable (run_records done) (run_records (run ∷ more)) (subst (AllByRecursion IsWritable) (ap run_records e ∙ map-append run_record done (run ∷ more)) h)).0
 
 -- ---- the number of bytes
 

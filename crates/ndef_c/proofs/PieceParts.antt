@@ -159,10 +159,3 @@ pieces_count bytes at (q ∷ ps) (x ∷ parts) h = let n = pieces_count bytes (x
 
 pub payload_on : (ps : List Piece) (p : Piece) → payload_of (ps ++ p ∷ []) ≡ payload_of ps ++ p.payload
 payload_on ps p = flat_map-append (λ q. q.payload) ps (p ∷ []) ∙ ap (λ x. payload_of ps ++ x) (append-nil p.payload)
-
--- it is as long as those of others with it at most
-pub payload_within : (ps : List Piece) (p : Piece) (all : List Piece) → (more : List Piece) × (all ≡ ps ++ p ∷ more) → length (payload_of ps) + length p.payload ≤ length (payload_of all)
-payload_within ps p all w =
-    let a = ap (λ x. length (payload_of x)) w.1 ∙ ap length (flat_map-append (λ q. q.payload) ps (p ∷ w.0)) ∙ length-append (payload_of ps) (payload_of (p ∷ w.0)) in
-    let b = length-append p.payload (payload_of w.0) in
-    omega (arith, a, b)

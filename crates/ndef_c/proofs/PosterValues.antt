@@ -7,6 +7,7 @@ use Rattle.std.proofs.lemmas.Str.{scalars-chars}
 use Rattle.std.specs.Int.{w32, to_be_bytes}
 use Rattle.std.specs.List.{AllByRecursion}
 use Rattle.std.specs.Prelude.{IsUtf8, count_by, if◌then◌else◌}
+use Rattle.ndef_value.specs.ListLaws.{all_append}
 use Rattle.ndef_format.specs.Messages.{Item}
 use Rattle.ndef_format.specs.Nested.{is_uri, kind_in}
 use Rattle.ndef_format.specs.Records.{AreOctets}
@@ -29,7 +30,7 @@ use Rattle.ndef_c.specs.declared.poster_parts.NdefIconWriting.{NdefIconWriting}
 use Rattle.ndef_c.specs.declared.poster_parts.NdefTitleWriting.{NdefTitleWriting}
 use Rattle.ndef_c.specs.declared.poster_writing.NdefPosterWriting.{NdefPosterWriting}
 use Rattle.ndef_c.proofs.Counted.{part_octets}
-use Rattle.ndef_c.proofs.NestedRecords.{HasPayload, IsMember, IsNamed, all_joined, are_items, each_payload, member_of, number_octets}
+use Rattle.ndef_c.proofs.NestedRecords.{HasPayload, IsMember, IsNamed, are_items, each_payload, member_of, number_octets}
 
 -- a record of a poster that isn't its URI
 record IsBeside (i : Item) : Type 0 where
@@ -141,4 +142,4 @@ posters_read texts uris a may octets =
     let size = asked_beside a.how.has_size kinds.Size (to_be_bytes w32 a.how.size) size_named refl (λ e. size_payload a.how.size) in
     let media = asked_beside a.how.has_media_type kinds.MediaType (media_of a) media_named refl (media_payload a said.media) in
     let icons = icons_beside a.bytes a.icons octets (recursion_from_All (MayBeIcon a.bytes) a.icons may.icons) in
-    poster_of said.payload _ (uri_member uris a said.payload said.uri) (all_joined IsBeside _ _ titles (all_joined IsBeside _ _ action (all_joined IsBeside _ _ size (all_joined IsBeside _ _ media icons)))) may.few
+    poster_of said.payload _ (uri_member uris a said.payload said.uri) (all_append IsBeside _ _ titles (all_append IsBeside _ _ action (all_append IsBeside _ _ size (all_append IsBeside _ _ media icons)))) may.few

@@ -2,7 +2,7 @@
 use Rattle.std.proofs.Common.{◌≡◌, ℕ, ◌+◌, ◌<◌, ◌≤◌, [], take, drop, refl, sym, ◌∙◌, ap, ap₂, subst, arith, List, ◌++◌, length, length-append, length-take, append_assoc, take_at, drop_at}
 use Rattle.std.specs.Prelude.{IfNone, IfSome, None, Option, Some}
 use Rattle.std.proofs.lemmas.List.{drop-drop, take-append-drop}
-use Rattle.ndef_c.specs.Buffers.{Gives, IsPut, Puts, written_over}
+use Rattle.ndef_c.specs.Buffers.{Gives, IsPut, Puts}
 use Rattle.ndef_c.specs.declared.out.Out.{Out}
 use Rattle.ndef_c.specs.declared.status.TheConstants.{OK, BUFFER_TOO_SMALL}
 
@@ -51,22 +51,6 @@ put_none at old = let e : at ≡ at + 0 = omega arith in record { is = sym (take
 pub puts_none : (a : Out) → length a.buffer.now ≤ 18446744073709551615 → Puts a [] a
 puts_none a h = record { same_reference = refl; size = refl; buffer = h; at = λ l. omega (arith, l); put = λ _. put_none a.at a.buffer.now }
 
--- what was put at the front
-pub put_all : (xs text old new : List ℕ) → xs ≡ text → IsPut 0 xs old new → new ≡ written_over text old
-put_all xs text old new e p =
-    let n : 0 + length xs ≡ length text = let k = ap length e in omega (arith, k) in
-    p.is ∙ ap₂ (λ x k. x ++ drop k old) e n
-
--- what was put at the front of a buffer that is large enough is given
-pub gives_put : (xs text old new : List ℕ) (count : ℕ) → xs ≡ text → count ≡ length xs → count ≤ length old → IsPut 0 xs old new → Gives text old new count OK
-gives_put xs text old new count e n h p =
-    let k = ap length e in
-    record {
-      count_is = omega (arith, n, k);
-      fits = λ _. (refl, put_all xs text old new e p);
-      too_small = λ l. absurd (omega (arith, n, k, h, l));
-    }
-
 -- what is written at a place of a buffer that is large enough is put there
 pub put_at : {a b : Out} {xs : List ℕ} (at : ℕ) (old new : List ℕ) → a.at ≡ at → a.buffer.now ≡ old → b.buffer.now ≡ new → at + length xs ≤ length old → Puts a xs b → IsPut at xs old new
 put_at {a} {b} {xs} at old new place buffer after h p =
@@ -75,7 +59,15 @@ put_at {a} {b} {xs} at old new place buffer after h p =
 
 -- what is written to the front of it is given
 pub gives_puts : {a b : Out} {xs : List ℕ} (text old new : List ℕ) (count : ℕ) → xs ≡ text → count ≡ length xs → count ≤ length old → a.at ≡ 0 → a.buffer.now ≡ old → b.buffer.now ≡ new → Puts a xs b → Gives text old new count OK
-gives_puts text old new count e n h at buffer after p = gives_put _ text old new count e n h (put_at 0 old new at buffer after (omega (arith, n, h)) p)
+gives_puts {a} {b} {xs} text old new count e n h at buffer after p =
+    let k = ap length e in
+    let size : 0 + length xs ≡ length text = omega (arith, k) in
+    let put = put_at 0 old new at buffer after (omega (arith, n, h)) p in
+    record {
+      count_is = omega (arith, n, k);
+      fits = λ _. (refl, put.is ∙ ap₂ (λ x m. x ++ drop m old) e size);
+      too_small = λ l. absurd (omega (arith, n, k, h, l));
+    }
 
 -- what would be written was looked at before
 pub some_of : {X N Q : Type 0} (r : Option X) → IfNone r N → ¬ N → IfSome r (λ _. Q) → Q

@@ -2,6 +2,7 @@
 use Rattle.std.proofs.Common.{◌≡◌, ◌≢◌, ◌<◌, ◌⊎◌, inl, inr, ℕ, ◌+◌, ◌%◌, ◌≤◌, true, List, [], ◌∷◌, ◌++◌, length, sum_by, append_assoc, append-nil, drop, get_or, refl, sym, ◌∙◌, ap, subst, arith}
 use Rattle.std.specs.List.{AllByRecursion}
 use Rattle.std.proofs.lemmas.List.Sums.{sum_by-append, sum_by-cons}
+use Rattle.ndef_value.specs.ListLaws.{all_append}
 use Rattle.ndef_format.specs.Handovers.{IsAlternative}
 use Rattle.ndef_format.specs.Messages.{Item, run_record}
 use Rattle.ndef_format.specs.Nested.{IsNest}
@@ -32,10 +33,6 @@ use Rattle.ndef_c.proofs.Walking.{Here}
 pub each_weaker : {T : Type 0} (P Q : ℕ → T → Type 0) → ((k : ℕ) (x : T) → P k x → Q k x) → (from : ℕ) (xs : List T) → EachAt P from xs → EachAt Q from xs
 each_weaker P Q f from [] h = tt
 each_weaker P Q f from (x ∷ xs) h = (f from x h.0, each_weaker P Q f (from + 1) xs h.1)
-
-pub all_joined : {T : Type 0} (P : T → Type 0) (xs ys : List T) → AllByRecursion P xs → AllByRecursion P ys → AllByRecursion P (xs ++ ys)
-all_joined P [] ys h k = k
-all_joined P (x ∷ xs) ys h k = (h.0, all_joined P xs ys h.1 k)
 
 -- ---- one alternative carrier
 
@@ -174,7 +171,7 @@ own_placed : (payload : List ℕ) (index : ℕ) (ac : Item) (v : AcValue) (n : �
     → ArePlaced (own ++ more)
 own_placed payload index ac v n [] more h p l = p
 own_placed payload index ac v n (r ∷ own) more h p l = (
-  all_joined (ComesAfter r) own more (own_after payload index ac v r n (n + 1) own h.0.carrier h.0.number_is (omega arith) h.1) (more_after index r more h.0.carrier l),
+  all_append (ComesAfter r) own more (own_after payload index ac v r n (n + 1) own h.0.carrier h.0.number_is (omega arith) h.1) (more_after index r more h.0.carrier l),
   own_placed payload index ac v (n + 1) own more h.1 p l,
 )
 
@@ -190,7 +187,7 @@ later_carriers : (payload : List ℕ) (index : ℕ) (acs : List Item) (items : L
 later_carriers payload index [] items h = subst (AllByRecursion (λ s. index ≤ s.carrier)) (sym h) tt
 later_carriers payload index (ac ∷ acs) items (own, more, e, o, rest) =
     subst (AllByRecursion (λ s. index ≤ s.carrier)) (sym e)
-    (all_joined (λ s. index ≤ s.carrier) own more (own_from payload index ac o.alternative 0 own o.each) (from_less index more (later_carriers payload (index + 1) acs more rest)))
+    (all_append (λ s. index ≤ s.carrier) own more (own_from payload index ac o.alternative 0 own o.each) (from_less index more (later_carriers payload (index + 1) acs more rest)))
 
 -- they are placed by their carriers and numbers
 pub are_placed : (payload : List ℕ) (index : ℕ) (acs : List Item) (items : List NdefReferenceItem) → AreReferenceItems payload index acs items → ArePlaced items

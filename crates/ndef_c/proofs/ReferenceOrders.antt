@@ -12,6 +12,7 @@ use Rattle.std.proofs.lemmas.List.{get_or-map, length-map}
 use Rattle.std.proofs.lemmas.List.Elements.{All-from_recursion, recursion_from_All}
 use Rattle.std.proofs.lemmas.List.Sorted.{All-permutation, IsPermutation-map, IsPermutation-trans, ranks_by, sorted_far, sum_by-IsPermutation}
 use Rattle.std.proofs.lemmas.List.Sums.{sum_by-cons}
+use Rattle.ndef_value.specs.ListLaws.{all_more}
 use Rattle.ndef_c.specs.HandoverItems.{HasNoRecord, name_in, without_record}
 use Rattle.ndef_c.specs.ReferenceOrder.{ArePlaced, comes_first, has_smaller_name, order}
 use Rattle.ndef_c.specs.declared.reference_items.NdefReferenceItem.{NdefReferenceItem}
@@ -106,18 +107,10 @@ abbrev Member : {X : Type 0} → X → List X → Type 0
 Member z [] = ⊥
 Member z (x ∷ xs) = (z ≡ x) ⊎ Member z xs
 
-members_all : {X : Type 0} (P : X → Type 0) → ((x : X) → P x) → (xs : List X) → AllByRecursion P xs
-members_all P f [] = tt
-members_all P f (x ∷ xs) = (f x, members_all P f xs)
-
-pub all_weaker : {X : Type 0} (P Q : X → Type 0) → ((x : X) → P x → Q x) → (xs : List X) → AllByRecursion P xs → AllByRecursion Q xs
-all_weaker P Q f [] h = tt
-all_weaker P Q f (x ∷ xs) h = (f x h.0, all_weaker P Q f xs h.1)
-
 -- each element of a list is one of it
 own_members : {X : Type 0} (xs : List X) → AllByRecursion (λ z. Member z xs) xs
 own_members [] = tt
-own_members (x ∷ xs) = (inl refl, all_weaker (λ z. Member z xs) (λ z. Member z (x ∷ xs)) (λ z m. inr m) xs (own_members xs))
+own_members (x ∷ xs) = (inl refl, all_more (λ z. Member z xs) (λ z. Member z (x ∷ xs)) xs (λ z m. inr m) (own_members xs))
 
 of_member : {X : Type 0} (P : X → Type 0) (z : X) (xs : List X) → AllByRecursion P xs → Member z xs → P z
 of_member P z [] h m = absurd m
@@ -193,7 +186,7 @@ module _ {X : Type 0} (cmp : X → X → Ordering) (total : IsTotalOrder cmp) wh
       let two = sum_by-cons g y ys in
       let same = ap g e in
       omega (arith, all, one, two, same) in
-      let none = less (not_above x) ∙ sum_none (not_above x) xs (all_weaker (λ z. cmp x z ≡ Less) (λ z. not_above x z ≡ 0) (above x) xs r.0) in
+      let none = less (not_above x) ∙ sum_none (not_above x) xs (all_more (λ z. cmp x z ≡ Less) (λ z. not_above x z ≡ 0) xs (above x) r.0) in
       ap (λ z. z ∷ ys) e ∙ ap (λ zs. x ∷ zs) (one_list xs ys r.1 s.1 less (members_above x xs ys none m.1))
 
   none_falls : (ys : List X) → IsSortedBy (λ a b. is_lt (cmp a b)) ys → NoneFalls ys
@@ -241,7 +234,7 @@ placed a b h = ap (λ n. ordering_then (ordering_then (slice_cmp nat_cmp n (name
 
 rising : (items : List NdefReferenceItem) → ArePlaced items → IsRising (order []) (order_total []) items
 rising [] h = tt
-rising (r ∷ items) h = (all_weaker _ (λ z. order [] r z ≡ Less) (placed r) items h.0, rising items h.1)
+rising (r ∷ items) h = (all_more _ (λ z. order [] r z ≡ Less) items (placed r) h.0, rising items h.1)
 
 -- without their records they are sorted alike
 sorted_bare : (payload : List ℕ) (items : List NdefReferenceItem) → IsSortedBy (comes_first payload) items → IsSortedBy (comes_first payload) (map without_record items)

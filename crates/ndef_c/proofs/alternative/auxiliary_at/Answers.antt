@@ -42,21 +42,14 @@ counted_at-requires c =
     let n = c.requires.index in
     (name_there _ _ _ _ (omega (arith, i, n)) c.loop-before.invariant.1).within
 
-pub returns-clause-lies : goal.returns-clause-lies
-returns-clause-lies c = λ v s.
+pub returns : goal.returns
+returns c =
     let i = c.loop-before.invariant.0 in
     let n = c.requires.index in
     let l = c.loop-before-test.false in
     let same : c.args.index ≡ c.loop-before._before = omega (arith, i, l) in
     let t = name_there _ _ _ _ (omega (arith, i, n)) c.loop-before.invariant.1 in
-    let g = t.lies v s in
-    (g.0, ap (λ k. slice_get v.auxiliary k) same ∙ g.1, rw (c.counted_at.ensures.at, c.counted_at.ensures.length) g.2)
-
-pub returns-clause-place : goal.returns-clause-place
-returns-clause-place c = λ v s.
-    let i = c.loop-before.invariant.0 in
-    let n = c.requires.index in
-    let l = c.loop-before-test.false in
-    let same : c.loop-before._before ≡ c.args.index = omega (arith, i, l) in
-    let t = name_there _ _ _ _ (omega (arith, i, n)) c.loop-before.invariant.1 in
-    c.counted_at.ensures.at ∙ t.place v s ∙ ap (λ k. reference_place (references v) (k + 1)) same
+    record {
+      lies = λ v s. let g = t.lies v s in (g.0, ap (λ k. slice_get v.auxiliary k) same ∙ g.1, rw (c.counted_at.ensures.at, c.counted_at.ensures.length) g.2);
+      place = λ v s. c.counted_at.ensures.at ∙ t.place v s ∙ ap (λ k. reference_place (references v) (k + 1)) (sym same);
+    }

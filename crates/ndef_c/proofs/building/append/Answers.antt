@@ -1,4 +1,4 @@
-use Rattle.std.proofs.Common.{rules, length, refl, arith}
+use Rattle.std.proofs.Common.{rules, refl, arith}
 use Rattle.ndef_c.specs.Writes.{item_of, octets_by}
 use Rattle.ndef_c.proofs.Built.{put_after}
 use Rattle.ndef_c.proofs.Puts.{put_at, put_to}

@@ -1,4 +1,4 @@
-use Rattle.std.proofs.Common.{rules, ◌==◌, length, true, refl, arith}
+use Rattle.std.proofs.Common.{rules, ◌==◌, true, refl, arith}
 use Rattle.ndef_c.specs.PendingRecord.{made_item, whole_octets}
 use Rattle.ndef_c.specs.declared.making.Ends.{Ends}
 use Rattle.ndef_c.proofs.Built.{put_after}

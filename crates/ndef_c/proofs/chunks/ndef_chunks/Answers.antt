@@ -3,16 +3,15 @@ use Rattle.ndef_format.specs.Records.{pieces}
 use Rattle.ndef_c.proofs.Followed.{one_record}
 use Rattle.ndef_c.proofs.chunks.ndef_chunks.Goals as goal
 
-pub tell_pieces-requires-clause-run : goal.tell_pieces-requires-clause-run
-tell_pieces-requires-clause-run c = let x = c.in-Some.ensures.some in (x.run, _, x.begins)
-
-pub tell_pieces-requires-clause-buffer : goal.tell_pieces-requires-clause-buffer
-tell_pieces-requires-clause-buffer c = λ run rest b.
+pub tell_pieces-requires : goal.tell_pieces-requires
+tell_pieces-requires c =
     let x = c.in-Some.ensures.some in
-    let same = ap (λ r. length (pieces r)) (one_record x.run run _ _ _ x.begins b).0 in
     let size = x.pieces_are in
     let buffer = c.if-parts-found.false in
-    omega (arith, same, size, buffer)
+    record {
+      run = (x.run, _, x.begins);
+      buffer = λ run rest b. let same = ap (λ r. length (pieces r)) (one_record x.run run _ _ _ x.begins b).0 in omega (arith, same, size, buffer);
+    }
 
 pub returns-clause-pieces : goal.returns-clause-pieces
 returns-clause-pieces c = λ _.

@@ -2,6 +2,7 @@ use Rattle.std.proofs.Common.{◌++◌, length, drop, sym, ◌∙◌, ap, subst,
 use Rattle.std.specs.List.{AllByRecursion}
 use Rattle.std.specs.Prelude.{◌==◌}
 use Rattle.std.proofs.lemmas.List.{length-map}
+use Rattle.ndef_value.specs.ListLaws.{all_more}
 use Rattle.ndef_types.specs.Links.{alternatives}
 use Rattle.ndef_c.specs.HandoverItems.{AreReferenceItems, HasNoRecord, Refers, RefersTo, without_record}
 use Rattle.ndef_c.specs.Links.{HasRuns}
@@ -9,7 +10,7 @@ use Rattle.ndef_c.specs.ReferenceOrder.{ArePlaced}
 use Rattle.ndef_c.proofs.Filled.{front_of, is_too_small as too_small, is_enough as enough}
 use Rattle.ndef_c.proofs.LinkedReferences.{unnamed}
 use Rattle.ndef_c.proofs.ReferenceLists.{are_placed}
-use Rattle.ndef_c.proofs.ReferenceOrders.{all_bare, all_weaker}
+use Rattle.ndef_c.proofs.ReferenceOrders.{all_bare}
 use Rattle.ndef_c.proofs.handover_items.give_items.Goals as goal
 
 pub returns-then-items-count-clause-gives : goal.returns-then-items-count-clause-gives
@@ -52,7 +53,7 @@ returns-then-not-is_empty-clause-gives c = λ profile records h.
       carriers = h;
       gives = enough _ _ _ _ _ count (omega (arith, l)) new (
         subst (AreReferenceItems payload 0 (alternatives records)) (sym same) t.1,
-        all_weaker (Refers bytes payload) (RefersTo bytes payload) (λ r k. inr (message, k)) new c.link.ensures.records,
+        all_more (Refers bytes payload) (RefersTo bytes payload) new (λ r k. inr (message, k)) c.link.ensures.records,
       )
           (size ∙ t.2)
           (ap (λ xs. new ++ xs) (f.back ∙ ap (λ n. drop n c.args.items.now) (sym size)));
@@ -70,7 +71,7 @@ returns-else-not-is_empty-clause-gives c = λ profile records h.
       records = records;
       carriers = h;
       gives = enough _ _ _ _ _ count (omega (arith, l)) t.0
-          (subst (AreReferenceItems payload 0 (alternatives records)) (sym (all_bare t.0 t.3)) t.1, all_weaker HasNoRecord (RefersTo bytes payload) (λ r k. inl (none, k)) t.0 t.3)
+          (subst (AreReferenceItems payload 0 (alternatives records)) (sym (all_bare t.0 t.3)) t.1, all_more HasNoRecord (RefersTo bytes payload) t.0 (λ r k. inl (none, k)) t.3)
           t.2
           t.4;
     }

@@ -7,14 +7,14 @@ use Rattle.ndef_message.specs.declared.heads.Standing.{Standing}
 use Rattle.ndef_c.proofs.Messages.{id_of}
 use Rattle.ndef_c.proofs.normalizing.head_of.Goals as goal
 
-pub first_head-requires-clause-kind : goal.first_head-requires-clause-kind
-first_head-requires-clause-kind c = let r = c.requires in subst (λ k. length k < 256) (ap (λ q. q.kind) (sym r.1.initial)) r.2.lengths.kind
-
-pub first_head-requires-clause-id : goal.first_head-requires-clause-id
-first_head-requires-clause-id c = let r = c.requires in subst (λ k. length k < 256) (id_of c.args.found.now r.1) r.2.lengths.id
-
-pub first_head-requires-clause-part : goal.first_head-requires-clause-part
-first_head-requires-clause-part c = let r = c.requires in subst (λ n. n < 2 ^ 32) (sym r.1.payload) r.2.lengths.payload
+pub first_head-requires : goal.first_head-requires
+first_head-requires c =
+    let r = c.requires in
+    record {
+      kind = subst (λ k. length k < 256) (ap (λ q. q.kind) (sym r.1.initial)) r.2.lengths.kind;
+      id = subst (λ k. length k < 256) (id_of c.args.found.now r.1) r.2.lengths.id;
+      part = subst (λ n. n < 2 ^ 32) (sym r.1.payload) r.2.lengths.payload;
+    }
 
 pub returns-clause-head : goal.returns-clause-head
 returns-clause-head c = λ bytes x.

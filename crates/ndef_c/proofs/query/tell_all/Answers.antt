@@ -1,11 +1,12 @@
 use Rattle.std.proofs.Common.{◌≡◌, ◌+◌, ◌++◌, ◌∷◌, [], length, length-append, refl, sym, ◌∙◌, ap, subst, arith}
+use Rattle.std.proofs.lemmas.Option.{slice_get_within}
 use Rattle.std.specs.Prelude.{filter}
 use Rattle.ndef_format.specs.Messages.{run_record}
 use Rattle.ndef_format.specs.declared.profile.Profile.TheVariants.{Standard}
 use Rattle.ndef_c.specs.Nested.{MayBeInPieces}
 use Rattle.ndef_c.specs.RecordQuery.{IsExpectedAt, has_type}
 use Rattle.ndef_c.proofs.Ahead.{ahead_in, all_done, reached}
-use Rattle.ndef_c.proofs.Filled.{each_more, filled_on, get_within, length-set_over}
+use Rattle.ndef_c.proofs.Filled.{each_more, filled_on, length-set_over}
 use Rattle.ndef_c.proofs.Filtered.{count_more, count_same, filter_at, expected_at}
 use Rattle.ndef_c.proofs.Walking.{begins, here}
 use Rattle.ndef_c.proofs.query.tell_all.Goals as goal
@@ -50,7 +51,7 @@ bounds-array-index g c =
     let h = here c.message-message.result.now _ c.in-Some.found _ c.in-Some.ensures.steps i.same in
     let r = reached i.ahead h in
     let k = sym (c.wants.ensures _ h.there) ∙ c.if-wants.true in
-    let l = get_within (filter expected i.items) (length (filter expected i.done)) (run_record h.there.run) (filter_at expected i.items i.done (run_record h.there.run) r.within k) in
+    let l = slice_get_within (filter expected i.items) (length (filter expected i.done)) (run_record h.there.run) (filter_at expected i.items i.done (run_record h.there.run) r.within k) in
     let buffer = c.requires.buffer i.items i.records in
     let count = i.count in
     let index = i.index in
@@ -79,7 +80,7 @@ loop-found-preserved-then-wants g c =
     let place : length (filter expected i.done) ≡ 0 + length i.reported = omega (arith, count) in
     let more = count_more expected i.done item e in
     let one = length-append i.reported (given ∷ []) in
-    let l = get_within (filter expected i.items) (length (filter expected i.done)) item (filter_at expected i.items i.done item r.within e) in
+    let l = slice_get_within (filter expected i.items) (length (filter expected i.done)) item (filter_at expected i.items i.done item r.within e) in
     let buffer = c.requires.buffer i.items i.records in
     record {
       items = i.items;

@@ -1,11 +1,11 @@
 use Rattle.std.proofs.Common.{◌≡◌, ◌+◌, ◌++◌, ◌∷◌, [], suc, length, length-append, append_assoc, get_or, refl, sym, ◌∙◌, ap, subst, arith}
 use Rattle.std.specs.Prelude.{slice_get}
+use Rattle.ndef_value.specs.ListLaws.{all_append}
 use Rattle.ndef_c.specs.Alternatives.{reference_place, references}
 use Rattle.ndef_c.specs.Arrays.{set_over}
 use Rattle.ndef_c.specs.HandoverItems.{HasNoRecord, IsOfPart, IsReferenceOf}
 use Rattle.ndef_c.proofs.Alternatives.{NamesAt, ac_at, name_there, names_first}
 use Rattle.ndef_c.proofs.Filled.{each_more, element_at, filled_on}
-use Rattle.ndef_c.proofs.ReferenceLists.{all_joined}
 use Rattle.ndef_c.proofs.reference_items.tell_carrier.Goals as goal
 
 pub bounds-payload-first : goal.bounds-payload-first
@@ -87,7 +87,7 @@ loop-before-preserved c =
             };
             of_part = subst (λ k. IsOfPart c.args.carrier.now k part item) next c.item_of-in-loop-before.ensures;
           });
-      none = all_joined HasNoRecord i.own (item ∷ []) i.none (c.item_of-in-loop-before.ensures.none, tt);
+      none = all_append HasNoRecord i.own (item ∷ []) i.none (c.item_of-in-loop-before.ensures.none, tt);
       count = omega (arith, count, more);
       filled = λ done before e n.
           let all = length-append done i.own in
@@ -95,19 +95,11 @@ loop-before-preserved c =
           filled_on (done ++ i.own) item before _ _ (i.filled done before e n) (omega (arith, all, n, count)) space ∙ ap (λ xs. set_over xs before) (append_assoc done i.own (item ∷ []));
     }
 
-pub returns-clause-next : goal.returns-clause-next
-returns-clause-next c =
-    let i = c.loop-before.invariant in
-    let l = c.loop-before-test.false in
-    let within = i.within in
-    let many = c.from-count.ensures ∙ ap (λ k. get_or c.args.carrier.now.payload.now (2 + k) 0) c.from-first.ensures in
-    omega (arith, l, within, many)
-
-pub returns-clause-tells : goal.returns-clause-tells
-returns-clause-tells c = λ v done before s e n.
+pub returns : goal.returns
+returns c =
     let i = c.loop-before.invariant in
     let l = c.loop-before-test.false in
     let within = i.within in
     let count = i.count in
     let many = c.from-count.ensures ∙ ap (λ k. get_or c.args.carrier.now.payload.now (2 + k) 0) c.from-first.ensures in
-    (i.own, i.are v s, omega (arith, l, within, count, many), i.none, i.filled done before e n)
+    record { next = omega (arith, l, within, many); tells = λ v done before s e n. (i.own, i.are v s, omega (arith, l, within, count, many), i.none, i.filled done before e n) }

@@ -1,5 +1,6 @@
 use Rattle.std.proofs.Common.{◌≡◌, ◌+◌, ◌++◌, ◌∷◌, [], length, length-append, sum_by, refl, sym, ◌∙◌, ap, subst, arith}
 use Rattle.std.proofs.lemmas.List.Sums.{sum_by_push}
+use Rattle.ndef_value.specs.ListLaws.{all_append}
 use Rattle.ndef_format.specs.Handovers.{IsAlternative}
 use Rattle.ndef_format.specs.Messages.{run_record}
 use Rattle.ndef_types.specs.Links.{alternatives}
@@ -11,7 +12,7 @@ use Rattle.ndef_c.proofs.Ahead.{ahead_in, all_done, reached}
 use Rattle.ndef_c.proofs.Filled.{length-set_over}
 use Rattle.ndef_c.proofs.Filtered.{filter_more, filter_same}
 use Rattle.ndef_c.proofs.Handovers.{is_carrier}
-use Rattle.ndef_c.proofs.ReferenceLists.{all_joined, are_more, count_within, of_carrier, passed}
+use Rattle.ndef_c.proofs.ReferenceLists.{are_more, count_within, of_carrier, passed}
 use Rattle.ndef_c.proofs.Walking.{begins, here}
 use Rattle.ndef_c.proofs.reference_items.tell_references.Goals as goal
 
@@ -53,42 +54,26 @@ overflow_add-carrier c =
     let size = c.requires.short in
     omega (arith, short, size)
 
-pub tell_carrier-count-requires-clause-alternative : goal.tell_carrier-count-requires-clause-alternative
-tell_carrier-count-requires-clause-alternative c =
+pub tell_carrier-count-requires : goal.tell_carrier-count-requires
+tell_carrier-count-requires c =
     let q = c.requires.carriers in
     let i = c.loop-found.invariant in
     let h = here c.after_version-message.result.now _ c.in-Some.found _ c.in-Some.ensures.steps i.same in
     let t = i.listed q.0 q.1 q.2 in
     let r = reached t.ahead h in
-    let p = passed q.0 c.args.payload.now q.1 t.done c.after_version-message.ensures q.2 h r (sym (c.wants.ensures _ h.there) ∙ c.if-wants.true) in
-    subst IsAlternative (sym (c.part_in.ensures _ h.there ∙ r.one)) p.alternative
-
-pub tell_carrier-count-requires-clause-short : goal.tell_carrier-count-requires-clause-short
-tell_carrier-count-requires-clause-short c =
-    let q = c.requires.carriers in
-    let i = c.loop-found.invariant in
-    let h = here c.after_version-message.result.now _ c.in-Some.found _ c.in-Some.ensures.steps i.same in
-    let t = i.listed q.0 q.1 q.2 in
-    let r = reached t.ahead h in
-    let short = (passed q.0 c.args.payload.now q.1 t.done c.after_version-message.ensures q.2 h r (sym (c.wants.ensures _ h.there) ∙ c.if-wants.true)).short in
-    let size = c.requires.short in
-    let e = ap length (c.part_in.ensures _ h.there ∙ r.one) in
-    omega (arith, short, size, e)
-
-pub tell_carrier-count-requires-clause-buffer : goal.tell_carrier-count-requires-clause-buffer
-tell_carrier-count-requires-clause-buffer c =
-    let q = c.requires.carriers in
-    let i = c.loop-found.invariant in
-    let h = here c.after_version-message.result.now _ c.in-Some.found _ c.in-Some.ensures.steps i.same in
-    let t = i.listed q.0 q.1 q.2 in
-    let r = reached t.ahead h in
+    let wanted = sym (c.wants.ensures _ h.there) ∙ c.if-wants.true in
+    let p = passed q.0 c.args.payload.now q.1 t.done c.after_version-message.ensures q.2 h r wanted in
+    let part = c.part_in.ensures _ h.there ∙ r.one in
+    let short = p.short in
+    let most = c.requires.short in
+    let e = ap length part in
     let buffer = c.requires.buffer q.0 q.1 q.2 in
-    let own = ap references_of (c.part_in.ensures _ h.there ∙ r.one) in
-    let within = count_within q.1 t.done (run_record h.there.run) r.within (sym (c.wants.ensures _ h.there) ∙ c.if-wants.true) in
+    let own = ap references_of part in
+    let within = count_within q.1 t.done (run_record h.there.run) r.within wanted in
     let sum = t.sum in
     let size = t.size in
     let n = ap length t.filled ∙ length-set_over t.reported c.args.items.now (omega (arith, buffer, within, sum, size)) in
-    omega (arith, buffer, own, within, sum, n)
+    record { alternative = subst IsAlternative (sym part) p.alternative; short = omega (arith, short, most, e); buffer = omega (arith, buffer, own, within, sum, n) }
 
 pub overflow_add-index : goal.overflow_add-index
 overflow_add-index c =
@@ -132,7 +117,7 @@ loop-found-preserved-then-wants c =
             ahead = r.next;
             reported = t.reported ++ own.0;
             are = subst (λ acs. AreReferenceItems c.args.payload.now 0 acs (t.reported ++ own.0)) (sym all) (are_more c.args.payload.now 0 (alternatives t.done) item t.reported own.0 t.are are);
-            none = all_joined HasNoRecord t.reported own.0 t.none own.3;
+            none = all_append HasNoRecord t.reported own.0 t.none own.3;
             size = omega (arith, next, size, count, more);
             sum = omega (arith, next, sum, refs, sums);
             carriers = omega (arith, carriers, one);

@@ -6,11 +6,8 @@ use Rattle.ndef_c.proofs.LinkedReferences.{head_alike}
 use Rattle.ndef_c.proofs.ReferenceOrders.{map_count, none_sorted, sorted_back, sorted_names}
 use Rattle.ndef_c.proofs.reference_records.link.Goals as goal
 
-pub link_heads-requires-clause-none : goal.link_heads-requires-clause-none
-link_heads-requires-clause-none c = none_sorted _ _ c.sort.ensures.same c.requires.none
-
-pub link_heads-requires-clause-sorted : goal.link_heads-requires-clause-sorted
-link_heads-requires-clause-sorted c = sorted_names c.args.payload.now _ c.sort.ensures.sorted
+pub link_heads-requires : goal.link_heads-requires
+link_heads-requires c = record { message = c.requires.message; none = none_sorted _ _ c.sort.ensures.same c.requires.none; sorted = sorted_names c.args.payload.now _ c.sort.ensures.sorted }
 
 pub returns-clause-same : goal.returns-clause-same
 returns-clause-same c = sorted_back c.args.items.now _ _ _ c.requires.none c.requires.placed c.sort.ensures.same (c.link_others.ensures.same ∙ c.link_heads.ensures.same) c.sort-2.ensures.same c.sort-2.ensures.sorted

@@ -74,10 +74,10 @@ loop-found-preserved c =
           );
     }
 
-pub returns-clause-same : goal.returns-clause-same
-returns-clause-same c = c.loop-found.invariant.bare
-
-pub returns-clause-heads : goal.returns-clause-heads
-returns-clause-heads c = λ k d l h runs b.
-    let t = c.loop-found.invariant.left runs b in
-    subst (λ rs. RefersAmong c.args.bytes.now c.args.payload.now rs (get_or c.loop-found.items k d)) (sym (all_passed t.1 c.in-None.ensures.steps).are) (t.3 k d l h)
+pub returns : goal.returns
+returns c = record {
+  same = c.loop-found.invariant.bare;
+  heads = λ k d l h runs b.
+      let t = c.loop-found.invariant.left runs b in
+      subst (λ rs. RefersAmong c.args.bytes.now c.args.payload.now rs (get_or c.loop-found.items k d)) (sym (all_passed t.1 c.in-None.ensures.steps).are) (t.3 k d l h);
+}

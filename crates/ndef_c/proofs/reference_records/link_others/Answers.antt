@@ -52,12 +52,10 @@ loop-index-preserved c =
           ];
     }
 
-pub returns-clause-same : goal.returns-clause-same
-returns-clause-same c = c.loop-index.invariant.same
-
-pub returns-clause-all : goal.returns-clause-all
-returns-clause-all c = λ bytes heads.
+pub returns : goal.returns
+returns c =
     let i = c.loop-index.invariant in
+    let items = c.loop-index.items in
     let l = c.loop-index-test.false in
-    let n = map_count c.loop-index.items c.args.items.now i.same in
-    recursion_from_All (Refers bytes c.args.payload.now) c.loop-index.items (λ k d m. i.done bytes heads k d (omega (arith, l, n, m)) (omega (arith, n, m)))
+    let n = map_count items c.args.items.now i.same in
+    record { same = i.same; all = λ bytes heads. recursion_from_All (Refers bytes c.args.payload.now) items (λ k d m. i.done bytes heads k d (omega (arith, l, n, m)) (omega (arith, n, m))) }

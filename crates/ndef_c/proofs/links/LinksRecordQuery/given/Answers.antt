@@ -11,23 +11,18 @@ after_version-requires c = (handover_with c.args.self.now.bytes.now c.args.self.
 pub part_in-carrier-requires : goal.part_in-carrier-requires
 part_in-carrier-requires c = let w = c.requires.3 in (w.from, (moved (sym c.after_version.ensures) w.there).0)
 
-pub link_of-requires-clause-message : goal.link_of-requires-clause-message
-link_of-requires-clause-message c = c.requires.2.0.message
-
-pub link_of-requires-clause-alternative : goal.link_of-requires-clause-alternative
-link_of-requires-clause-alternative c =
+pub link_of-requires : goal.link_of-requires
+link_of-requires c =
     let payload = c.args.self.now.payload.now in
     let w = c.requires.3 in
     let m = moved (sym c.after_version.ensures) w.there in
     let e = c.part_in-carrier.ensures w.from m.0 ∙ ap (λ r. r.initial.payload) m.1 in
     let h = handover_with c.args.self.now.bytes.now payload c.requires.0 c.requires.2 in
-    subst IsAlternative (sym e) (carrier_in_set payload h c.requires.1 c.args.found.now w)
-
-pub link_of-requires-clause-bound : goal.link_of-requires-clause-bound
-link_of-requires-clause-bound c =
-    let payload = c.args.self.now.payload.now in
-    let h = handover_with c.args.self.now.bytes.now payload c.requires.0 c.requires.2 in
-    carrier_bound payload h c.requires.1 c.args.found.now c.requires.3 c.requires.2.0.short
+    record {
+      message = c.requires.2.0.message;
+      alternative = subst IsAlternative (sym e) (carrier_in_set payload h c.requires.1 c.args.found.now w);
+      bound = carrier_bound payload h c.requires.1 c.args.found.now w c.requires.2.0.short;
+    }
 
 pub returns : goal.returns
 returns c = λ items index has w.
