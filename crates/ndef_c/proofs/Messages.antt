@@ -24,10 +24,6 @@ use Rattle.ndef_c.proofs.Places.{ends, id_is}
 abbrev pub IsAmid : Run → Type 0
 IsAmid r = ends_message r.initial r.later ≡ false
 
-pub amid_on : (done : List Run) (r : Run) → AllByRecursion IsAmid done → IsAmid r → AllByRecursion IsAmid (done ++ r ∷ [])
-amid_on [] r h e = (e, tt)
-amid_on (d ∷ done) r h e = (h.0, amid_on done r h.1 e)
-
 not_last : (done : List Run) (r : Run) → is_last_run (done ++ r ∷ []) ≡ false
 not_last [] r = refl
 not_last (d ∷ done) r = refl

@@ -3,6 +3,7 @@ use Rattle.std.proofs.Common.{◌≡◌, ℕ, zero, suc, ◌<◌, ◌≤◌, ◌
 use Rattle.std.specs.List.{flat_map, AllByRecursion}
 use Rattle.std.specs.Option.{ForSome}
 use Rattle.std.specs.Prelude.{unwrap_or, if◌then◌else◌}
+use Rattle.std.proofs.Math.Bool.{and-false}
 use Rattle.ndef_value.specs.ListLaws.{all_append}
 use Rattle.ndef_format.specs.Canonical.{AreItems, IsItem, written_id}
 use Rattle.ndef_format.specs.Messages.{BeginsOnce, EndsOnce, IsShaped, Item, SpellsPieces, all_pieces, payload_of, run_record}
@@ -128,13 +129,9 @@ begins [] last = (refl, all_append (λ q. q.first ≡ false) (later_pieces true 
 begins (a ∷ others) last =
     (refl, all_append (λ q. q.first ≡ false) (later_pieces false (later_parts (size_of a.how) a.item.payload)) _ (later_firsts false (later_parts (size_of a.how) a.item.payload)) (firsts others last))
 
-and_false : (b : Bool) → (b && false) ≡ false
-and_false true = refl
-and_false false = refl
-
 not_lasts : (ps : List (List ℕ)) → AllByRecursion (λ q. q.last ≡ false) (later_pieces false ps)
 not_lasts [] = tt
-not_lasts (p ∷ ps) = (and_false (none_left ps), not_lasts ps)
+not_lasts (p ∷ ps) = (and-false (none_left ps), not_lasts ps)
 
 ends-cons : (p : Piece) (qs : List Piece) → p.last ≡ false → EndsOnce qs → EndsOnce (p ∷ qs)
 ends-cons p [] e h = absurd h
@@ -154,7 +151,7 @@ ends first [] last =
     (ends-run (cut_run first true (size_of last.how) last.item).initial (later_parts (size_of last.how) last.item.payload) refl)
 ends first (a ∷ others) last =
     ends-append (pieces (cut_run first false (size_of a.how) a.item)) (all_pieces (runs_of false others last))
-    (and_false (none_left (later_parts (size_of a.how) a.item.payload)), not_lasts (later_parts (size_of a.how) a.item.payload)) (ends false others last)
+    (and-false (none_left (later_parts (size_of a.how) a.item.payload)), not_lasts (later_parts (size_of a.how) a.item.payload)) (ends false others last)
 
 -- ---- its octets
 

@@ -1,17 +1,19 @@
 -- The order of references, and the one list of them that is in it.
-use Rattle.std.proofs.Common.{◌≡◌, ℕ, zero, suc, ◌+◌, ◌<◌, ◌≤◌, true, false, cond, List, [], ◌∷◌, length, map, drop, take, sum_by, get_or, refl, sym, ◌∙◌, ap, subst, arith, true≢false, inl, inr, Ordering, Less, Equal, Greater, is_lt, IsPermutation, ◌⊎◌}
+use Rattle.std.proofs.Common.{◌≡◌, ℕ, suc, ◌+◌, ◌<◌, ◌≤◌, true, false, cond, List, [], ◌∷◌, length, map, drop, take, sum_by, get_or, refl, sym, ◌∙◌, ap, subst, arith, true≢false, inl, inr, Ordering, Less, Equal, Greater, is_lt, IsPermutation, ◌⊎◌}
 use Rattle.std.specs.Prelude.{⊤}
 use Rattle.std.specs.Cmp.{IsTotalOrder, IsStrictWeakOrder}
 use Rattle.std.specs.Cmp.Lexicographic.{slice_cmp}
 use Rattle.std.specs.List.{All, AllByRecursion}
 use Rattle.std.specs.List.Sorted.{IsSortedBy}
-use Rattle.std.specs.Ordering.{MatchOrdering, nat_cmp, ordering_index, ordering_reverse, ordering_then}
-use Rattle.std.proofs.Math.Seq.{drop-nil}
+use Rattle.std.specs.Ordering.{MatchOrdering, nat_cmp, ordering_index, ordering_reverse, ordering_then, is_eq}
+use Rattle.std.proofs.Math.Seq.{drop-nil, take-nil}
 use Rattle.std.proofs.lemmas.Cmp.{nat_cmp_total, nat_list_cmp_total, on_total, then_total, tied_itself, ranked}
 use Rattle.std.proofs.lemmas.List.{get_or-map, length-map}
 use Rattle.std.proofs.lemmas.List.Elements.{All-from_recursion, recursion_from_All}
 use Rattle.std.proofs.lemmas.List.Sorted.{All-permutation, IsPermutation-map, IsPermutation-trans, ranks_by, sorted_far, sum_by-IsPermutation}
 use Rattle.std.proofs.lemmas.List.Sums.{sum_by-cons}
+use Rattle.std.proofs.lemmas.Map.Text.{is_eq-slice_cmp}
+use Rattle.std.proofs.lemmas.Slice.Eq.{bytes_eq-Decides}
 use Rattle.ndef_value.specs.ListLaws.{all_more}
 use Rattle.ndef_c.specs.HandoverItems.{HasNoRecord, name_in, without_record}
 use Rattle.ndef_c.specs.ReferenceOrder.{ArePlaced, comes_first, has_smaller_name, order}
@@ -59,27 +61,13 @@ sorted_alike payload xs ys e h = λ k d l m.
 
 -- ---- equal names
 
-nat_equal : (x y : ℕ) → nat_cmp x y ≡ Equal → x ≡ y
-nat_equal x y e = ranked x y Equal (sym e)
-
-cmp_equal : (xs ys : List ℕ) → slice_cmp nat_cmp xs ys ≡ Equal → xs ≡ ys
-cmp_equal [] [] e = refl
-cmp_equal [] (y ∷ ys) e = absurd (true≢false (ap is_lt e))
-cmp_equal (x ∷ xs) [] e = absurd (cc)
-cmp_equal (x ∷ xs) (y ∷ ys) e = by_first (nat_cmp x y) refl e (cmp_equal xs ys)
-  where
-    by_first : (o : Ordering) → nat_cmp x y ≡ o → ordering_then o (slice_cmp nat_cmp xs ys) ≡ Equal → (slice_cmp nat_cmp xs ys ≡ Equal → xs ≡ ys) → x ∷ xs ≡ y ∷ ys
-    by_first Less f e more = absurd (true≢false (ap is_lt e))
-    by_first Equal f e more = ap (λ z. z ∷ xs) (nat_equal x y f) ∙ ap (λ zs. y ∷ zs) (more e)
-    by_first Greater f e more = absurd (cc)
-
 -- names of which neither is less are the same
 pub same_from_neither : (xs ys : List ℕ) → is_lt (slice_cmp nat_cmp xs ys) ≡ false → is_lt (slice_cmp nat_cmp ys xs) ≡ false → xs ≡ ys
 same_from_neither xs ys a b = by_cases (slice_cmp nat_cmp xs ys) (slice_cmp nat_cmp ys xs) refl refl a b
   where
     by_cases : (o p : Ordering) → slice_cmp nat_cmp xs ys ≡ o → slice_cmp nat_cmp ys xs ≡ p → is_lt o ≡ false → is_lt p ≡ false → xs ≡ ys
     by_cases Less p e f a b = absurd (true≢false a)
-    by_cases Equal p e f a b = cmp_equal xs ys e
+    by_cases Equal p e f a b = (bytes_eq-Decides xs ys).0 (sym (is_eq-slice_cmp xs ys) ∙ ap is_eq e)
     by_cases Greater p e f a b = absurd (true≢false (sym (ap is_lt (sym f ∙ nat_list_cmp_total.antisymm ys xs ∙ ap ordering_reverse e)) ∙ b))
 
 pub not_below_itself : (xs : List ℕ) → is_lt (slice_cmp nat_cmp xs xs) ≡ false
@@ -205,12 +193,8 @@ module _ {X : Type 0} (cmp : X → X → Ordering) (total : IsTotalOrder cmp) wh
 
 -- ---- the order of a handover
 
-take_none : (n : ℕ) → take {A = ℕ} n [] ≡ []
-take_none zero = refl
-take_none (suc n) = refl
-
 no_name : (r : NdefReferenceItem) → name_in [] r ≡ []
-no_name r = ap (take r.length) (drop-nil r.at) ∙ take_none r.length
+no_name r = ap (take r.length) (drop-nil r.at) ∙ take-nil r.length
 
 nat_less : (x y : ℕ) → x < y → nat_cmp x y ≡ Less
 nat_less x y l = by_rank (nat_cmp x y) (ranked x y (nat_cmp x y) refl)

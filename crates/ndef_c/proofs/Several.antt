@@ -4,6 +4,7 @@ use Rattle.std.specs.List.{flat_map}
 use Rattle.std.proofs.lemmas.List.{take_more}
 use Rattle.std.proofs.lemmas.Option.{get_or_from_slice_get, slice_get-map, slice_get_within}
 use Rattle.std.specs.Prelude.{IfSome, Option, Some, option_map, slice_get}
+use Rattle.std.proofs.Math.Bool.{and-true, and-false, and_assoc}
 use Rattle.ndef_format.specs.Canonical.{canonical, is_nil}
 use Rattle.ndef_format.specs.Messages.{Item}
 use Rattle.ndef_message.specs.declared.form.Form.TheVariants.{Short}
@@ -23,19 +24,11 @@ use Rattle.ndef_c.proofs.Records.{records_joined}
 one_less : (left n : ℕ) → left - 1 - n ≡ left - suc n
 one_less left n = omega arith
 
-first_none : (first : Bool) → (first && true) ≡ first
-first_none true = refl
-first_none false = refl
-
-first_some : (first : Bool) → (first && false) ≡ false
-first_some true = refl
-first_some false = refl
-
 -- those of records and of others after them
 pub left_on : (first : Bool) (left : ℕ) (xs ys : List Item) → left_octets first left (xs ++ ys) ≡ left_octets first left xs ++ left_octets (first && is_nil xs) (left - length xs) ys
-left_on first left [] ys = ap₂ (λ f n. left_octets f n ys) (sym (first_none first)) (omega arith)
+left_on first left [] ys = ap₂ (λ f n. left_octets f n ys) (sym (and-true first)) (omega arith)
 left_on first left (m ∷ xs) ys =
-    ap (λ t. record_octets Short first (left == 1) None m ++ t) (left_on false (left - 1) xs ys ∙ ap₂ (λ f n. left_octets false (left - 1) xs ++ left_octets f n ys) (sym (first_some first)) (one_less left (length xs)))
+    ap (λ t. record_octets Short first (left == 1) None m ++ t) (left_on false (left - 1) xs ys ∙ ap₂ (λ f n. left_octets false (left - 1) xs ++ left_octets f n ys) (sym (and-false first)) (one_less left (length xs)))
     ∙ sym (append_assoc (record_octets Short first (left == 1) None m) (left_octets false (left - 1) xs) (left_octets (first && false) (left - suc (length xs)) ys))
 
 last_left : (ms : List Item) → (suc (length ms) == 1) ≡ is_nil ms
@@ -55,10 +48,6 @@ nil_both : (xs ys : List Item) → (is_nil xs && is_nil ys) ≡ is_nil (xs ++ ys
 nil_both [] ys = refl
 nil_both (x ∷ xs) ys = refl
 
-and_assoc : (a b c : Bool) → ((a && b) && c) ≡ (a && (b && c))
-and_assoc true b c = refl
-and_assoc false b c = refl
-
 place_of : (k l : ℕ) (f g : Bool) → k ≡ l → f ≡ g → ◌≡◌ {A = Place} (record { left = k; first = f }) (record { left = l; first = g })
 place_of k l f g e h = rw (e, h) refl
 
@@ -70,7 +59,7 @@ after_on p xs ys =
 
 -- nothing is written
 pub written_none : (p : Place) {out : Out} → Puts out [] out → IsWritten p [] out out p
-written_none p o = record { put = o; next = place_of _ _ _ _ (omega arith) (sym (first_none p.first)) }
+written_none p o = record { put = o; next = place_of _ _ _ _ (omega arith) (sym (and-true p.first)) }
 
 -- records, and others after them
 pub written_on : {p q r : Place} {xs ys : List Item} {old mid new : Out} → IsWritten p xs old mid q → IsWritten q ys mid new r → IsWritten p (xs ++ ys) old new r

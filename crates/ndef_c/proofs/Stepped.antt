@@ -1,21 +1,17 @@
 -- An octet and the bytes after it, stepped one after another: whether they are a payload.
-use Rattle.std.proofs.Common.{◌≡◌, ℕ, ◌+◌, ◌-◌, ◌≤◌, List, [], ◌∷◌, ◌++◌, take, drop, refl, sym, subst, arith, inl, inr, length, length-drop, append-nil}
+use Rattle.std.proofs.Common.{◌≡◌, ℕ, ◌+◌, ◌-◌, ◌≤◌, List, [], ◌∷◌, ◌++◌, take, drop, sym, subst, arith, inl, inr, length, length-drop, append-nil}
 use Rattle.std.specs.Prelude.{◌↔◌}
 use Rattle.std.proofs.lemmas.Bool.{cases_lt}
-use Rattle.std.proofs.lemmas.List.{take-append-drop, take_all}
+use Rattle.std.proofs.lemmas.List.{take-append-drop, take_all, nil_from_length}
 use Rattle.ndef_lang.specs.Language.{Continues, StepsAll}
 
 -- what may follow the octet is what makes a payload with it
 pub after_octet : (set start next : List ℕ → Type 0) (octet : ℕ) (r : List ℕ) → Continues set start [] → Continues start next (octet ∷ []) → next r ↔ set (octet ∷ r)
 after_octet set start next octet r f g = (λ h. (f (octet ∷ r)).0 ((g r).0 h), λ h. (g r).1 ((f (octet ∷ r)).1 h))
 
-no_octets : (r : List ℕ) → length r ≤ 0 → r ≡ []
-no_octets [] h = refl
-no_octets (x ∷ r) h = absurd (omega (arith, h))
-
 ended : (future : List ℕ → Type 0) (bytes r : List ℕ) (count : ℕ) → count ≡ length bytes → length r ≤ length bytes - count → future (take count bytes ++ r) → future bytes
 ended future bytes r count e l h =
-    let none : r ≡ [] = no_octets r (omega (arith, e, l)) in
+    let none : r ≡ [] = nil_from_length r (omega (arith, e, l)) in
     let all : take count bytes ≡ bytes = take_all count bytes (omega (arith, e)) in
     subst future (append-nil bytes) (rw (none, all) at h)
 

@@ -1,5 +1,6 @@
 use Rattle.std.proofs.Common.{◌++◌, ◌∷◌, [], refl, sym, ◌∙◌, true≢false}
-use Rattle.ndef_c.proofs.Messages.{amid_on, some_runs, walked_to}
+use Rattle.ndef_value.specs.ListLaws.{all_append}
+use Rattle.ndef_c.proofs.Messages.{IsAmid, some_runs, walked_to}
 use Rattle.ndef_c.proofs.Places.{bit_is_set, bit_is_clear}
 use Rattle.ndef_c.proofs.Walked.{between_on}
 use Rattle.ndef_c.proofs.Walking.{all_passed, begins, begins_here, here, left_at, onward}
@@ -33,7 +34,7 @@ loop-found-preserved c =
       going = h.ends ∙ amid;
       done = i.done ++ h.there.run ∷ [];
       before = between_on bytes 0 _ _ i.done h.there.run i.before (begins_here h);
-      amid = amid_on i.done h.there.run i.amid amid;
+      amid = all_append IsAmid i.done (h.there.run ∷ []) i.amid (amid, tt);
       left = λ runs b. let l = i.left runs b in (l.0 ++ h.there.run ∷ [], (onward l.1 h).left);
     }
 
