@@ -1,5 +1,5 @@
 -- Steps of a command line, in clap's words.
-use Rattle.std.specs.Prelude.{◌≡◌, IfOk, Result, Some, codes, false, ℕ, pos}
+use Rattle.std.specs.Prelude.{◌≡◌, ◌∷◌, [], IfOk, Result, Some, codes, false, ℕ, pos}
 use Rattle.clap.specs.declared.builder.value_parser.ValueParser.TheVariants as vp
 use Rattle.clap.specs.Words.{App, Rule, Text, app_of, new_app, new_rule, with_rule}
 use Rattle.clap.specs.declared.builder.action.ArgAction.TheVariants.{SetTrue}
@@ -29,11 +29,15 @@ abbrev pub number_rule : ℕ → Text → Rule
 number_rule most name =
     record (new_rule name) { long = Some name; parser = Some (vp.Signed (pos 1) (pos most)) }
 
+-- the most chunks of a record; the option has two names
+abbrev pub pieces_rule : Rule
+pieces_rule = record (number_rule 65535 (codes "pieces")) { aliases = codes "chunks" ∷ [] }
+
 -- a subcommand, with the flag for hexadecimal text and the limits
 abbrev pub limits_app : Text → App
 limits_app name =
     with_rule (with_rule (with_rule (hex_app name) (number_rule 4294967295 (codes "payload")))
-    (number_rule 65535 (codes "records"))) (number_rule 65535 (codes "pieces"))
+    (number_rule 65535 (codes "records"))) pieces_rule
 
 -- hexadecimal text, the limits and the profile
 abbrev pub reading_app : Text → App

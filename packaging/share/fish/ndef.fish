@@ -21,6 +21,7 @@ complete -c ndef -n '__ndef_is show check encode' -l hex -d 'The input is hexade
 complete -c ndef -n '__ndef_is show check encode' -l payload -x -d 'The most bytes of a payload'
 complete -c ndef -n '__ndef_is show check encode' -l records -x -d 'The most records of a message'
 complete -c ndef -n '__ndef_is show check encode' -l pieces -x -d 'The most chunks of a record'
+complete -c ndef -n '__ndef_is show check encode' -l chunks -x -d 'The most chunks of a record'
 complete -c ndef -n '__ndef_is show check encode' -l profile -x -a 'strict standard' -d 'How reserved values are read'
 complete -c ndef -n '__ndef_is encode' -l form -x -a 'short long' -d 'How lengths of payloads are written'
 complete -c ndef -n '__ndef_is encode' -l chunk -x -d 'The bytes of a chunk'
