@@ -3,6 +3,7 @@ use Rattle.std.specs.Prelude.{◌+◌, ◌<◌, ◌^◌, ℕ, [], ◌++◌, code
 use Rattle.hex.specs.declared.error.FromHexError.{FromHexError}
 use Rattle.hex.specs.declared.error.FromHexError.TheVariants.{InvalidHexCharacter}
 use Rattle.ndef_format.specs.Reasons.{reason_number, reason_name}
+use Rattle.ndef_format.specs.declared.reason.Reason.{Reason}
 use Rattle.ndef_format.specs.declared.refusal.Refusal.{Refusal}
 use Rattle.ndef_message.specs.declared.input.InputError.{InputError}
 use Rattle.ndef_message.specs.declared.input.InputError.TheVariants as errors
@@ -29,12 +30,13 @@ input_outcome errors.NoMemory = Memory
 
 -- ---- lines
 
+-- where and why bytes are refused
+abbrev pub refusal_text : ℕ → Reason → Text
+refusal_text at reason = decimal at ++ codes ": " ++ decimal (reason_number reason) ++ codes " " ++ reason_name reason
+
 -- the place counts after the bytes of the messages before
 abbrev pub refusal_line : ℕ → Refusal → Text
-refusal_line base r =
-    codes "refused at " ++ decimal (base + r.at) ++ codes ": " ++ decimal (reason_number r.reason)
-    ++ codes " "
-    ++ reason_name r.reason ++ codes "\n"
+refusal_line base r = codes "refused at " ++ refusal_text (base + r.at) r.reason ++ codes "\n"
 
 -- for digits that aren't hexadecimal text
 abbrev pub hex_line : HexFault → Text

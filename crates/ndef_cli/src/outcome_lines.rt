@@ -1,9 +1,22 @@
 //! The lines of endings.
-ghost use Rattle.std.specs.Prelude.{◌≡◌, ◌+◌, ◌<◌, ◌^◌, ◌≤◌, length};
-ghost use Rattle.ndef_cli.specs.Outcomes.{FitsPlace, outcome_text, hex_line, refusal_line};
+ghost use Rattle.std.specs.Prelude.{◌≡◌, ◌++◌, ◌+◌, ◌<◌, ◌^◌, ◌≤◌, length};
+ghost use Rattle.ndef_cli.specs.Outcomes.{FitsPlace, outcome_text, hex_line, refusal_line, refusal_text};
 
 use crate::{HexFault, Line, Outcome, ROOM};
-use ndef_value::Refusal;
+use ndef_value::{Reason, Refusal};
+
+/// Appends where and why bytes are refused.
+pub fn push_refusal(line: &mut Line, at: u64, reason: Reason)
+    requires { length line.old ≤ 80 }
+    ensures text { line.new ≡ line.old ++ refusal_text at reason }
+    ensures room { length line.new ≤ length line.old + 60 }
+{
+    line.push_number(at);
+    line.push(b": ");
+    line.push_number(u64::from(reason.number()));
+    line.push(b" ");
+    line.push(reason.name());
+}
 
 /// The line of a refusal, after messages of `base` bytes.
 fn refusal_line(base: u64, refusal: Refusal) -> Line
@@ -12,11 +25,7 @@ fn refusal_line(base: u64, refusal: Refusal) -> Line
 {
     let mut line = Line::new();
     line.push(b"refused at ");
-    line.push_number(base + refusal.at);
-    line.push(b": ");
-    line.push_number(u64::from(refusal.reason.number()));
-    line.push(b" ");
-    line.push(refusal.reason.name());
+    push_refusal(&mut line, base + refusal.at, refusal.reason);
     line.push(b"\n");
     line
 }
@@ -39,7 +48,7 @@ fn hex_line(fault: HexFault) -> Line
 }
 
 /// A line of this text.
-fn text_line(text: &[u8]) -> Line
+pub fn text_line(text: &[u8]) -> Line
     requires { length text.now ≤ ROOM }
     ensures { result ≡ text.now }
 {

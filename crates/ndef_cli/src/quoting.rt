@@ -15,7 +15,7 @@ pub(crate) fn is_plain(byte: u8) -> bool
 }
 
 /// A byte in two lower-case hexadecimal digits.
-pub(crate) fn digits_of(byte: u8) -> [u8; 2]
+pub fn digits_of(byte: u8) -> [u8; 2]
     ensures { result ≡ encode_lower (byte ∷ []) }
 {
     let mut digits = [0; 2];
