@@ -1,5 +1,5 @@
 -- The records of handovers, and the links of a message.
-use Rattle.std.proofs.Common.{◌≡◌, ◌≢◌, ℕ, ◌+◌, ◌-◌, ◌<◌, ◌≤◌, ◌⊎◌, zero, suc, Bool, true, false, get_or, List, [], ◌∷◌, ◌++◌, length, map, refl, sym, ap, ◌∙◌, subst, arith, inl, inr, Option, Some, None, Ok, codes, decimal}
+use Rattle.std.proofs.Common.{◌≡◌, ◌≢◌, ℕ, ◌+◌, ◌-◌, ◌<◌, ◌≤◌, ◌⊎◌, zero, suc, Bool, true, false, get_or, List, [], ◌∷◌, ◌++◌, length, map, refl, sym, ap, ◌∙◌, subst, arith, inl, inr, Option, Some, None, codes, decimal}
 use Rattle.std.specs.Prelude.{slice_get, is_some, option_map, if◌then◌else◌}
 use Rattle.std.proofs.lemmas.Option.{get_or_from_slice_get, slice_get_within}
 use Rattle.std.specs.List.{AllByRecursion}
@@ -16,13 +16,13 @@ use Rattle.ndef_format.specs.declared.table.Table.TheVariants as tables
 use Rattle.ndef_format.specs.Payloads.{IsKindPayload}
 use Rattle.ndef_piece.specs.Steps.{inner_by}
 use Rattle.ndef_types.specs.Contents.{IsFirstOf, Lack, StandsForMessage}
-use Rattle.ndef_types.specs.Links.{AreLinks, FindsLinks, IsHandoverRecord, IsIndexOf, StandsForLinks, alternatives, is_alternative, is_handover, records_of}
+use Rattle.ndef_types.specs.Links.{AreLinks, IsHandoverRecord, IsIndexOf, StandsForLinks, alternatives, is_alternative, is_handover, records_of}
 use Rattle.ndef_types.specs.Values.{StandsForAc}
 use Rattle.ndef_types.specs.declared.link.Link.{Link}
 use Rattle.ndef_cli.specs.Quoting.{Text}
 use Rattle.ndef_tool.specs.Linking.{AreCarrierLines, AreLinkLines, HasNumber, IsCarrier, link_line, link_lines}
 use Rattle.ndef_tool.specs.Members.{AreMembers, Counts, FindsFirst, HasMembers}
-use Rattle.ndef_tool.specs.Showing.{Adds, IsTyped, PrintsValue, handover_word}
+use Rattle.ndef_tool.specs.Showing.{IsTyped, PrintsValue, handover_word}
 use Rattle.ndef_tool.specs.declared.nested.Member.{Member}
 
 all_get : {A : Type 0} (P : A → Type 0) (xs : List A) (k : ℕ) (x : A) → AllByRecursion P xs → k < length xs → P (get_or xs k x)

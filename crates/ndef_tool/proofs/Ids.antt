@@ -1,5 +1,5 @@
 -- The records of a message, from the last on, by their ids.
-use Rattle.std.proofs.Common.{◌≡◌, ◌≢◌, ℕ, zero, suc, ◌+◌, Bool, true, false, Bor, List, [], ◌∷◌, drop, take, refl, sym, ◌∙◌, ap, subst, arith, inr, Option, Some, None, bytes_eq}
+use Rattle.std.proofs.Common.{◌≡◌, ◌≢◌, ℕ, zero, suc, ◌+◌, Bool, true, false, Bor, List, [], ◌∷◌, drop, refl, sym, ◌∙◌, ap, subst, arith, inr, Option, Some, None, bytes_eq}
 use Rattle.std.specs.Prelude.{slice_get, if◌then◌else◌}
 use Rattle.std.specs.BTreeMap.{BTreeMap, UpdatesBy}
 use Rattle.std.specs.Cmp.Lexicographic.{slice_cmp}

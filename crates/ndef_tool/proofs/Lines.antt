@@ -1,17 +1,10 @@
 -- Lines, one after another.
-use Rattle.std.proofs.Common.{◌≡◌, ℕ, ◌+◌, ◌<◌, List, [], ◌∷◌, ◌++◌, length, take, refl, sym, ap, ◌∙◌, arith, true, false, length-append, length-take, append-nil, append_assoc, Result, Ok, Err}
-use Rattle.std.specs.Prelude.{OnOk, slice_get, Some, if◌then◌else◌}
-use Rattle.std.proofs.lemmas.List.Elements.{filter_more}
+use Rattle.std.proofs.Common.{◌≡◌, ℕ, ◌+◌, ◌<◌, List, [], ◌∷◌, ◌++◌, length, take, refl, sym, ap, ◌∙◌, arith, length-take, append-nil, append_assoc, Result, Ok, Err}
+use Rattle.std.specs.Prelude.{OnOk, slice_get, Some}
 use Rattle.std.proofs.lemmas.List.{take_more}
 use Rattle.std.proofs.lemmas.Option.{get_or_from_slice_get}
 use Rattle.ndef_format.specs.Messages.{Item}
 use Rattle.ndef_format.specs.declared.profile.Profile.{Profile}
-use Rattle.ndef_format.specs.Kinds.{kind_of}
-use Rattle.ndef_types.specs.Links.{alternatives, is_alternative}
-use Rattle.ndef_types.specs.Posters.{StandForTexts}
-use Rattle.ndef_types.specs.Values.{TextValue}
-use Rattle.ndef_types.specs.declared.link.Link.{Link}
-use Rattle.ndef_tool.specs.Linking.{link_line, link_lines}
 use Rattle.ndef_cli.specs.Quoting.{Text}
 use Rattle.ndef_tool.specs.Showing.{AreRecordLines, IsRecordLine}
 

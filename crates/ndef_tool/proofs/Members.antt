@@ -44,7 +44,6 @@ typed_on : (kind : Kind) (n : ℕ) (profile : Profile) (s : List ℕ) → n ≤ 
 typed_on kinds.SmartPoster n profile s h d = nest_on tables.SmartPoster n profile s h d
 typed_on kinds.Request n profile s h d = nest_on tables.Request n profile s h d
 typed_on kinds.Select n profile s h d = nest_on tables.Select n profile s h d
-typed_on kinds.Other n profile s h d = d
 typed_on _ n profile s h d = d
 
 -- what is read within limits has payloads of its types

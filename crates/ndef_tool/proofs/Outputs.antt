@@ -18,7 +18,7 @@ use Rattle.ndef_tool.specs.declared.choice.Action.{Action}
 use Rattle.ndef_tool.specs.declared.choice.Action.TheVariants.{Show, Check, Encode}
 use Rattle.ndef_tool.specs.declared.choice.Choice.{Choice}
 use Rattle.ndef_cli.specs.declared.outcome.Outcome.{Outcome}
-use Rattle.ndef_cli.specs.declared.outcome.Outcome.TheVariants.{Clean, Refused, Hex, Reading, Writing, Memory, TooMany, TooLong}
+use Rattle.ndef_cli.specs.declared.outcome.Outcome.TheVariants.{Writing}
 use Rattle.ndef_cli.specs.declared.status.Status.{Status}
 use Rattle.ndef_cli.specs.declared.status.Status.TheVariants as status
 
@@ -88,20 +88,7 @@ goes_to_end a b c middle new done Check base Writing r is d s m =
     goes_no_further a b c new done r (subst (λ (failed : Bool). GoesOut a b failed done) is d) s (subst (λ (failed : Bool). MarksOf failed new [] r) is m)
 goes_to_end a b c middle new done (Encode form size) base Writing r is d s m =
     goes_no_further a b c new done r (subst (λ (failed : Bool). GoesOut a b failed done) is d) s (subst (λ (failed : Bool). MarksOf failed new [] r) is m)
-goes_to_end a b c middle new done action base Clean r is d s m =
-    goes_after a b c middle new done _ r is (subst (λ (failed : Bool). GoesOut a b failed done) is d) s m
-goes_to_end a b c middle new done action base (Refused x) r is d s m =
-    goes_after a b c middle new done _ r is (subst (λ (failed : Bool). GoesOut a b failed done) is d) s m
-goes_to_end a b c middle new done action base (Hex x) r is d s m =
-    goes_after a b c middle new done _ r is (subst (λ (failed : Bool). GoesOut a b failed done) is d) s m
-goes_to_end a b c middle new done action base TooLong r is d s m =
-    goes_after a b c middle new done _ r is (subst (λ (failed : Bool). GoesOut a b failed done) is d) s m
-goes_to_end a b c middle new done action base Reading r is d s m =
-    goes_after a b c middle new done _ r is (subst (λ (failed : Bool). GoesOut a b failed done) is d) s m
-goes_to_end a b c middle new done action base Memory r is d s m =
-    goes_after a b c middle new done _ r is (subst (λ (failed : Bool). GoesOut a b failed done) is d) s m
-goes_to_end a b c middle new done action base TooMany r is d s m =
-    goes_after a b c middle new done _ r is (subst (λ (failed : Bool). GoesOut a b failed done) is d) s m
+goes_to_end a b c middle new done action base _ r is d s m = goes_after a b c middle new done _ r is (subst (λ (failed : Bool). GoesOut a b failed done) is d) s m
 
 -- ---- the status
 
@@ -113,10 +100,4 @@ pub outcome_status : (middle new : Bool) (text : Text) (outcome : Outcome) (r : 
     → EndsCommand r (status_of outcome) result → result ≡ status_after new (status_of outcome)
 outcome_status middle new text Writing (Ok n) result is m e = e ∙ ap (λ (failed : Bool). status_after failed status.Fault) (sym (m.0 ∙ is))
 outcome_status middle new text Writing (Err f) result is m e = e ∙ ap (λ (failed : Bool). status_after failed status.Fault) (sym m)
-outcome_status middle new text Clean r result is m e = usage_status middle new text r _ result is m e
-outcome_status middle new text (Refused x) r result is m e = usage_status middle new text r _ result is m e
-outcome_status middle new text (Hex x) r result is m e = usage_status middle new text r _ result is m e
-outcome_status middle new text TooLong r result is m e = usage_status middle new text r _ result is m e
-outcome_status middle new text Reading r result is m e = usage_status middle new text r _ result is m e
-outcome_status middle new text Memory r result is m e = usage_status middle new text r _ result is m e
-outcome_status middle new text TooMany r result is m e = usage_status middle new text r _ result is m e
+outcome_status middle new text _ r result is m e = usage_status middle new text r _ result is m e

@@ -1,5 +1,5 @@
 -- The records of a nested message, by a walk over its pieces.
-use Rattle.std.proofs.Common.{◌≡◌, ◌+◌, ◌<◌, Bool, refl, sym, ◌∙◌, ap, subst, arith, List, [], ◌∷◌, ◌++◌, length, map, append-nil, append_assoc, length-append, ℕ, Option, Some}
+use Rattle.std.proofs.Common.{◌≡◌, ◌+◌, ◌<◌, Bool, sym, ◌∙◌, ap, subst, arith, List, [], ◌∷◌, ◌++◌, length, map, append-nil, append_assoc, length-append, ℕ, Option, Some}
 use Rattle.std.specs.Prelude.{slice_index, unwrap_or}
 use Rattle.std.specs.List.{AllByRecursion}
 use Rattle.ndef_value.specs.ListLaws.{cut_alike}

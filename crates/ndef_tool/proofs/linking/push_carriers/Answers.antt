@@ -1,7 +1,7 @@
 use Rattle.std.proofs.Common.{◌≡◌, ◌+◌, ◌++◌, ◌∙◌, ap₂, sym, subst}
 use Rattle.ndef_format.specs.Handovers.{IsAlternative}
 use Rattle.ndef_types.specs.Links.{IsIndexOf}
-use Rattle.ndef_types.specs.Values.{AcValue, StandsForAc}
+use Rattle.ndef_types.specs.Values.{StandsForAc}
 use Rattle.ndef_tool.specs.Linking.{link_text}
 use Rattle.ndef_tool.proofs.Counting.{all_linked, first_carrier, one_linked}
 use Rattle.ndef_tool.proofs.linking.push_carriers.Goals as goal

@@ -1,4 +1,4 @@
-use Rattle.std.proofs.Common.{[], sym, subst, append-nil, refl}
+use Rattle.std.proofs.Common.{[], sym, subst, append-nil}
 use Rattle.ndef_tool.specs.Linking.{AreCarrierLines}
 use Rattle.ndef_tool.proofs.Carriers.{are_carriers, lines_linked, none_linked}
 use Rattle.ndef_tool.proofs.Lines.{on_ok}
