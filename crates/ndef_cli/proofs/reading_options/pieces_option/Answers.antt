@@ -18,8 +18,9 @@ returns c = named _ refl c.alias.result c.alias.ensures
     named more are (Ok new) adds =
         let old = c.small_option.result in
         let names = ap (map name_of) adds.1 ∙ map-append name_of old.aliases.items more
-        ∙ ap (λ (r : Rule). r.aliases ++ map name_of more) c.small_option.ensures.rule ∙ are in
-        (ap rule_of adds.0 ∙ ap (λ (r : Rule). record r { aliases = map name_of new.aliases.items }) c.small_option.ensures.rule
-        ∙ ap (λ names. record (number_rule 65535 (codes "pieces")) { aliases = names }) names,
-        ap (λ (a : Arg). a.global) adds.0 ∙ c.small_option.ensures.local)
+        ∙ ap (λ (r : Rule). r.aliases ++ map name_of more) c.small_option.ensures.rule ∙ are in (
+          ap rule_of adds.0 ∙ ap (λ (r : Rule). record r { aliases = map name_of new.aliases.items }) c.small_option.ensures.rule
+              ∙ ap (λ names. record (number_rule 65535 (codes "pieces")) { aliases = names }) names,
+          ap (λ (a : Arg). a.global) adds.0 ∙ c.small_option.ensures.local,
+        )
     named more are (Err error) adds = adds
