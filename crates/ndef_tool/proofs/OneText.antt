@@ -97,7 +97,6 @@ one_reported one kinds.SmartPoster profile s a b h (v, p, e) (w, q, d) =
 one_reported one kinds.Request profile s a b h (v, p, e) (w, q, d) = e ∙ ap (λ x. reported_handover kinds.Request x.minor x.items) (one.requests profile s v w h p q) ∙ sym d
 one_reported one kinds.Select profile s a b h (v, p, e) (w, q, d) = e ∙ ap (λ x. reported_handover kinds.Select x.minor (records_of x.message)) (one.selects profile s v w h p q) ∙ sym d
 one_reported one kinds.Carrier profile s a b h (v, p, e) (w, q, d) = e ∙ ap reported_carrier (one.carriers s v w h p q) ∙ sym d
-one_reported one kinds.Other profile s a b h e d = e ∙ sym d
 one_reported one _ profile s a b h e d = e ∙ sym d
 
 -- ---- records

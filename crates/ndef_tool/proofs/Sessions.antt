@@ -30,7 +30,7 @@ use Rattle.ndef_tool.specs.Rules.{Rules, rules_of}
 use Rattle.ndef_tool.specs.Sessions.{AreInTurn, IsNext, IsSession, Stops, TakesAfter, TakesNext, ViewsNext}
 use Rattle.ndef_tool.specs.declared.choice.Choice.{Choice}
 use Rattle.ndef_cli.specs.declared.outcome.Outcome.{Outcome}
-use Rattle.ndef_cli.specs.declared.outcome.Outcome.TheVariants.{Clean, Refused, Hex, Reading, Writing, Memory, TooMany, TooLong}
+use Rattle.ndef_cli.specs.declared.outcome.Outcome.TheVariants.{Reading, Writing, Memory}
 
 -- a look ahead changes nothing of what is taken
 consumes_kept : (a b c : Option (List ℕ)) (bytes : List ℕ) → Keeps a b → Consumes b c bytes → Consumes a c bytes
@@ -82,12 +82,6 @@ if_after P rules (Some xs) b reads at f e h =
 -- what is taken after some messages is taken of the bytes after them
 pub takes_after : (rules : Rules) (a b : Option (List ℕ)) (reads : List Read) (at n : ℕ) (outcome : Outcome) → AreInTurn rules a b reads → at ≡ total_bytes reads
     → TakesAfter rules b outcome n → TakesAfter rules (option_map (drop at) a) outcome n
-takes_after rules a b reads at n Clean f e h = h
-takes_after rules a b reads at n (Refused r) f e h = h
-takes_after rules a b reads at n (Hex x) f e h = h
-takes_after rules a b reads at n Writing f e h = h
-takes_after rules a b reads at n TooMany f e h = h
-takes_after rules a b reads at n TooLong f e h = h
 takes_after rules a b reads at n Reading f e (few, inl h) = (few, inl h)
 takes_after rules a b reads at n Reading f e (few, inr h) =
     (few, inr (h.0, h.1, record { front = if_after (λ input. (rest : List ℕ) × (input ≡ h.0 ++ rest)) rules a b reads at f e h.2.front; viable = h.2.viable; unended = h.2.unended }))
@@ -104,6 +98,7 @@ takes_after rules a b reads at n Memory f e (few, bytes, same, inr w) = (
     needs = w.needs;
   }),
 )
+takes_after rules a b reads at n _ f e h = h
 
 -- a look ahead changes nothing of what is read
 pub reads_kept : (set : Sets) (holds : Conditions) (limits : LimitValues) (a b c : Option (List ℕ)) (r : Result Read ReadError) → Keeps a b
@@ -179,14 +174,8 @@ viewed_taken taken_of set holds limits input rest before after v r h is e few co
 -- messages end for the same reason where another sink failed
 pub stops_on : (set : Sets) (holds : Conditions) (limits : LimitValues) (count : ℕ) (a b : Option (List ℕ)) (failed old new : Bool) (outcome : Outcome) → (old ≡ true → new ≡ true)
     → Stops (rules_of set holds limits) count a b failed old outcome → Stops (rules_of set holds limits) count a b failed new outcome
-stops_on set holds limits count a b failed old new Clean on h = h
-stops_on set holds limits count a b failed old new (Refused r) on h = h
-stops_on set holds limits count a b failed old new Reading on h = h
 stops_on set holds limits count a b failed old new Writing on h = (on h.0, h.1)
-stops_on set holds limits count a b failed old new Memory on h = h
-stops_on set holds limits count a b failed old new TooMany on h = h
-stops_on set holds limits count a b failed old new (Hex x) on h = h
-stops_on set holds limits count a b failed old new TooLong on h = h
+stops_on set holds limits count a b failed old new _ on h = h
 
 session_on : (choice : Choice) (a b : Option (List ℕ)) (failed old new : Bool) (reads : List Read) (outcome : Outcome) → (old ≡ true → new ≡ true)
     → IsSession choice a b failed old reads outcome → IsSession choice a b failed new reads outcome

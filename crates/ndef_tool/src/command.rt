@@ -1,6 +1,6 @@
 //! The command line, as `clap` reads it.
 ghost use Rattle.std.specs.Prelude.{◌≡◌, false};
-ghost use Rattle.clap.specs.Words.{app_of, rule_of};
+ghost use Rattle.clap.specs.Words.{app_of};
 ghost use Rattle.clap.specs.declared.builder.command.Command.TheViews.{out-Command as fields_of};
 ghost use Rattle.ndef_cli.specs.CommandLine.{IsCommand};
 ghost use Rattle.ndef_tool.specs.CommandLine.{encode_app, empty_ndef_app, ndef_app};

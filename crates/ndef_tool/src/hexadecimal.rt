@@ -1,11 +1,9 @@
 //! Hexadecimal text, read whole.
 ghost use Rattle.std.specs.Prelude.{◌≡◌, ◌<◌, ◌%◌, false, length, Err, IfErr};
-ghost use Rattle.hex.specs.Hex.{is_hex_digit};
 ghost use Rattle.ndef_message.specs.Inputs.{bytes_of};
 ghost use Rattle.ndef_message.specs.States.{source_state};
-ghost use Rattle.ndef_cli.specs.Outcomes.{fault_of};
+ghost use Rattle.ndef_cli.specs.Outcomes.{FitsPlace, fault_of};
 ghost use Rattle.ndef_tool.specs.Hexadecimal.{AreDecoded, IsDecoded, IsHexInput, without_spaces, is_space};
-ghost use Rattle.ndef_cli.specs.Outcomes.{FitsPlace};
 ghost use Rattle.ndef_tool.specs.Sessions.{is_writing};
 
 use hex::FromHexError;
@@ -40,13 +38,6 @@ fn fault_of(error: FromHexError) -> HexFault
     }
 }
 
-/// Whether a byte is a hexadecimal digit.
-fn is_digit(byte: u8) -> bool
-    ensures { result ≡ is_hex_digit byte }
-{
-    byte.is_ascii_hexdigit()
-}
-
 /// Why an even number of digits, for whose bytes there was no memory, gives no bytes: one of them is no digit, or else
 /// memory.
 fn without_memory(digits: &[u8]) -> Outcome
@@ -55,7 +46,7 @@ fn without_memory(digits: &[u8]) -> Outcome
     ensures { AreDecoded digits.now (Err result) }
 {
     for (place, digit) in digits.iter().enumerate() {
-        if !is_digit(*digit) {
+        if !digit.is_ascii_hexdigit() {
             return Outcome::Hex(HexFault::BadDigit(place as u64));
         }
     }

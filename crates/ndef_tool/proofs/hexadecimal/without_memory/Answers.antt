@@ -6,8 +6,8 @@ use Rattle.hex.specs.Hex.{is_hex_digit}
 use Rattle.ndef_tool.proofs.Digits.{first_bad, some_decoded}
 use Rattle.ndef_tool.proofs.hexadecimal.without_memory.Goals as goal
 
-pub returns-then-not-is_digit : goal.returns-then-not-is_digit
-returns-then-not-is_digit c =
+pub returns-then-not-is_ascii_hexdigit : goal.returns-then-not-is_ascii_hexdigit
+returns-then-not-is_ascii_hexdigit c =
     let s = c.args.digits.now in
     let place = c.loop-place.place in
     let within : place < length s = search rules in
