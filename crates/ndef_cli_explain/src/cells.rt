@@ -1,11 +1,12 @@
 //! Octets in hexadecimal digits, and as characters.
-ghost use Rattle.std.specs.Prelude.{◌≡◌, ◌++◌, ◌+◌, ◌%◌, ◌^◌, ◌≤◌, ◌∷◌, [], OnOk, length};
+ghost use Rattle.std.specs.Prelude.{◌≡◌, ◌++◌, ◌+◌, ◌%◌, ◌^◌, ◌≤◌, OnOk, length};
 ghost use Rattle.std.specs.Int.{w32, to_be_bytes};
 ghost use Rattle.std.specs.List.{flat_map};
 ghost use Rattle.hex.specs.Hex.{encode_lower};
 ghost use Rattle.ndef_cli_explain.specs.Cells.{barred, cell, cells, character, column_of, indentation};
 ghost use Rattle.ndef_cli_explain.specs.Cells.{later_row, later_rows, later_start, place_text, start_of};
 
+use ndef_cli::digits_of;
 use ndef_value::{Bytes, NoMemory};
 
 /// The number of octets of a line.
@@ -16,17 +17,6 @@ const BLANKS: &[u8] = b"                        ";
 
 /// As many spaces as a column of characters has, and two more.
 const COLUMN_BLANKS: &[u8] = b"          ";
-
-/// An octet in two lower-case digits.
-pub(crate) fn digits_of(octet: u8) -> [u8; 2]
-    ensures { result ≡ encode_lower (octet ∷ []) }
-{
-    let mut digits = [0; 2];
-    let Ok(()) = hex::encode_to_slice([octet].as_slice(), &mut digits) else {
-        unreachable!()
-    };
-    digits
-}
 
 /// A number in eight lower-case digits.
 fn wide_digits_of(number: u32) -> [u8; 8]

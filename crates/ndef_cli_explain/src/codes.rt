@@ -2,8 +2,7 @@
 ghost use Rattle.std.specs.Prelude.{◌≡◌, ◌++◌, OnOk, map};
 ghost use Rattle.ndef_cli_explain.specs.Codes.{code_text, format_text, power_text, prefix_word, reserved_text, word_of};
 
-use crate::cells::digits_of;
-use ndef_cli::{push_number, push_quoted};
+use ndef_cli::{digits_of, push_number, push_quoted};
 use ndef_types::prefix;
 use ndef_value::{Bytes, NoMemory};
 
