@@ -6,6 +6,7 @@ use Rattle.ndef_format.specs.declared.profile.Profile.TheVariants.{Standard}
 use Rattle.ndef_piece.specs.Whole.{IsSplit, BeginWithPiece}
 use Rattle.ndef_c.specs.Walks.{BeginsWithRun, OneRecordIsThere, ends_message}
 use Rattle.std.specs.Prelude.{unwrap_or}
+use Rattle.std.proofs.lemmas.Grind.{flat_map-append}
 use Rattle.ndef_message.specs.Machine.SeenLaws.{same_split}
 
 -- ---- one piece
@@ -170,13 +171,8 @@ last_of : (p q : Piece) (ps : List Piece) → q.last ≡ ends_message p (ps ++ q
 last_of p q [] = refl
 last_of p q (r ∷ ps) = last_of r q ps
 
-payload_more : (ps : List Piece) (q : Piece) → length (payload_of (ps ++ q ∷ [])) ≡ length (payload_of ps) + length q.payload
-payload_more [] q = let e = ap length (append-nil q.payload) in omega (arith, e)
-payload_more (p ∷ ps) q =
-    let a = length-append p.payload (payload_of (ps ++ q ∷ [])) in
-    let b = length-append p.payload (payload_of ps) in
-    let c = payload_more ps q in
-    omega (arith, a, b, c)
+pub payload_on : (ps : List Piece) (p : Piece) → payload_of (ps ++ p ∷ []) ≡ payload_of ps ++ p.payload
+payload_on ps p = flat_map-append (λ q. q.payload) ps (p ∷ []) ∙ ap (λ x. payload_of ps ++ x) (append-nil p.payload)
 
 -- one more
 pub reading_on : {p q r : Piece} {following rest more : List ℕ} {size count : ℕ} (short : Bool) → Reading p q following rest size count → q.chunked ≡ true → IsLater r → IsSplit r short more rest
@@ -194,7 +190,7 @@ reading_on {p} {q} {r} {following} {rest} {more} {size} {count} short g c is i =
         b.1 ∙ ap (λ z. g.done ++ z) (n.are ∙ ap (λ p. p ∷ n.more) s.0) ∙ sym (append_assoc g.done (r ∷ []) n.more),
         subst (λ z. Later r.chunked n.more end z) s.1 (subst (λ k. Later k n.more end n.following) chunked n.others),
       );
-  size_is = let e = g.size_is in let a = payload_more (p ∷ g.done) r in omega (arith, e, a);
+  size_is = let e = g.size_is in let a = ap length (payload_on (p ∷ g.done) r) ∙ length-append (payload_of (p ∷ g.done)) r.payload in omega (arith, e, a);
   count_is = let e = g.count_is in let a = length-append g.done (r ∷ []) in omega (arith, e, a);
   last_is = last_of p r g.done;
 }

@@ -30,7 +30,7 @@ use Rattle.ndef_c.proofs.Walked.{checks_walked}
 -- ---- sizes
 
 -- some pieces have more bytes than their payloads
-sized : (ps : List Piece) (bytes : List ℕ) → SpellsPieces ps bytes → length (payload_of ps) + length ps ≤ length bytes
+pub sized : (ps : List Piece) (bytes : List ℕ) → SpellsPieces ps bytes → length (payload_of ps) + length ps ≤ length bytes
 sized [] bytes s = omega arith
 sized (p ∷ ps) bytes (short, front, rest, e, s, more) =
     let n = split_size p short rest bytes (record { front = front; spells = s; joined = e }) in
@@ -151,11 +151,6 @@ step bytes at (q ∷ more) end r w h some x =
 pub there : (bytes : List ℕ) (at : ℕ) (left : List Run) (end : ℕ) → AreWalked bytes at left end → 0 < length left → (run : Run) × (rest : List ℕ) × BeginsWithRun run rest (drop at bytes)
 there bytes at [] end w some = absurd (omega (arith, some))
 there bytes at (q ∷ more) end w some = (q, drop w.0 bytes, w.1)
-
--- what holds of all holds of one amid them
-pub member_amid : (P : Run → Type 0) (done : List Run) (r : Run) (more : List Run) → AllByRecursion P (done ++ r ∷ more) → P r
-member_amid P [] r more h = h.0
-member_amid P (d ∷ done) r more h = member_amid P done r more h.1
 
 -- at a place is one record, which ends at one place
 pub same_end : (bytes : List ℕ) (at : ℕ) (r s : NdefRecord) → IsRecordAt bytes at r → IsRecordAt bytes at s → r.end ≡ s.end

@@ -2,6 +2,7 @@
 use Rattle.std.proofs.Common.{◌≡◌, ℕ, zero, suc, ◌/◌, ◌<◌, ◌≤◌, ◌^◌, List, [], ◌∷◌, length, sym, subst, arith}
 use Rattle.std.specs.Int.{byte_at, bytes_high_first}
 use Rattle.std.specs.List.{AllByRecursion}
+use Rattle.ndef_value.specs.ListLaws.{all_more}
 use Rattle.ndef_format.specs.Canonical.{AreItems, IsItem}
 use Rattle.ndef_format.specs.Kinds.{kind_name}
 use Rattle.ndef_format.specs.Messages.{Item}
@@ -19,16 +20,11 @@ pub record IsMember (table : Table) (i : Item) : Type 0 where
   pub item : IsItem i
   pub payload : IsPayload (kind_in table i.tnf i.kind) Strict i.payload
 
-each_item : (table : Table) (items : List Item) → AllByRecursion (IsMember table) items → AllByRecursion IsItem items
-each_item table [] h = tt
-each_item table (i ∷ items) h = (h.0.item, each_item table items h.1)
-
 pub each_payload : (table : Table) (items : List Item) → AllByRecursion (IsMember table) items → AllByRecursion (λ i. IsPayload (kind_in table i.tnf i.kind) Strict i.payload) items
-each_payload table [] h = tt
-each_payload table (i ∷ items) h = (h.0.payload, each_payload table items h.1)
+each_payload table items h = all_more (IsMember table) (λ i. IsPayload (kind_in table i.tnf i.kind) Strict i.payload) items (λ i m. m.payload) h
 
 pub are_items : (table : Table) (i : Item) (items : List Item) → AllByRecursion (IsMember table) (i ∷ items) → length (i ∷ items) ≤ 65535 → AreItems (i ∷ items)
-are_items table i items h few = record { some = omega arith; few = few; each = each_item table (i ∷ items) h }
+are_items table i items h few = record { some = omega arith; few = few; each = all_more (IsMember table) IsItem (i ∷ items) (λ j m. m.item) h }
 
 -- ---- records of a kind
 

@@ -5,8 +5,8 @@ use Rattle.std.proofs.lemmas.List.{append_cancel_left, map-append}
 use Rattle.std.specs.Prelude.{option_map, unwrap_or}
 use Rattle.ndef_value.specs.ListLaws.{all_append, all_back}
 use Rattle.ndef_format.specs.Canonical.{written_id}
-use Rattle.ndef_format.specs.Messages.{Item, SpellsPieces, payload_of, run_record}
-use Rattle.ndef_format.specs.Records.{Piece, Run, body, fields, id_length_octets, octets, payload_length_octets, tnf_of}
+use Rattle.ndef_format.specs.Messages.{Item, payload_of, run_record}
+use Rattle.ndef_format.specs.Records.{Run, body, fields, id_length_octets, octets, payload_length_octets, tnf_of}
 use Rattle.ndef_format.specs.declared.tnf.Tnf.{Tnf}
 use Rattle.ndef_piece.specs.Whole.{shown}
 use Rattle.ndef_piece.specs.Heads.{written_fields}
@@ -20,7 +20,7 @@ use Rattle.ndef_c.specs.Runs.{IsFirstRun}
 use Rattle.ndef_c.specs.Walks.{BeginsWithRun, is_last_run}
 use Rattle.ndef_c.specs.Writes.{one_by_one, octets_of_piece, record_octets}
 use Rattle.ndef_c.specs.declared.run.FirstRun.{FirstRun}
-use Rattle.ndef_c.proofs.Followed.{split_size}
+use Rattle.ndef_c.proofs.Listed.{sized}
 use Rattle.ndef_c.proofs.PendingRecord.{whole_as}
 use Rattle.ndef_c.proofs.Messages.{Left, Onward, id_of}
 
@@ -76,15 +76,6 @@ writable_there runs done run more e h =
 
 -- ---- the number of bytes
 
-payload_least : (ps : List Piece) (x : List ℕ) → SpellsPieces ps x → length (payload_of ps) ≤ length x
-payload_least [] x s = omega arith
-payload_least (p ∷ ps) x s =
-    let a = ap length s.3 ∙ length-append s.1 s.2 in
-    let b = split_size p s.0 [] s.1 (record { front = s.1; spells = s.4; joined = sym (append-nil s.1) }) in
-    let c = payload_least ps s.2 s.5 in
-    let n = length-append p.payload (payload_of ps) in
-    omega (arith, a, b, c, n)
-
 one_at_least : (short : Bool) (n : ℕ) (x : List ℕ) → 1 ≤ length (payload_length_octets short n ++ x)
 one_at_least true n x = omega arith
 one_at_least false n x = omega arith
@@ -102,7 +93,7 @@ run_least run rest bytes b =
     let e = one_at_least s.0 (length p.payload) (id_length_octets (option_map length p.id)) in
     let f = length-append p.kind (id ++ p.payload) in
     let g = length-append id p.payload in
-    let h = payload_least run.later s.2 s.5 in
+    let h = sized run.later s.2 s.5 in
     let n = length-append p.payload (payload_of run.later) in
     omega (arith, a, c, d, e, f, g, h, n)
 

@@ -1,7 +1,6 @@
 -- The places of the pieces of a record, given one after another.
 use Rattle.std.proofs.Common.{◌≡◌, ℕ, ◌+◌, ◌-◌, ◌≤◌, ◌∷◌, [], drop, refl, sym, ◌∙◌, ap, subst, arith, List, ◌++◌, length, length-append, length-drop, append_assoc, append-nil, Bool, true, false, true≢false, inl, inr}
-use Rattle.std.proofs.lemmas.Grind.{flat_map-append}
-use Rattle.ndef_format.specs.Messages.{SpellsPieces, payload_of}
+use Rattle.ndef_format.specs.Messages.{SpellsPieces}
 use Rattle.ndef_format.specs.Records.{Follow, Piece, Run, pieces}
 use Rattle.ndef_format.specs.HeadReasons.{is_set}
 use Rattle.ndef_piece.specs.Whole.{BeginWithPiece, IsSplit, piece_of}
@@ -154,8 +153,3 @@ pieces_count bytes at [] [] h = refl
 pieces_count bytes at [] (x ∷ parts) h = absurd h
 pieces_count bytes at (q ∷ ps) [] h = absurd h
 pieces_count bytes at (q ∷ ps) (x ∷ parts) h = let n = pieces_count bytes (x.at + x.length) ps parts h.1 in omega (arith, n)
-
--- ---- the payload of them
-
-pub payload_on : (ps : List Piece) (p : Piece) → payload_of (ps ++ p ∷ []) ≡ payload_of ps ++ p.payload
-payload_on ps p = flat_map-append (λ q. q.payload) ps (p ∷ []) ∙ ap (λ x. payload_of ps ++ x) (append-nil p.payload)

@@ -1,9 +1,10 @@
 use Rattle.std.proofs.Common.{◌≡◌, ◌++◌, ◌∷◌, [], length, length-append, append_assoc, refl, sym, ◌∙◌, ap, subst, arith}
 use Rattle.std.specs.List.{AllByRecursion}
+use Rattle.ndef_value.specs.ListLaws.{all_back}
 use Rattle.ndef_format.specs.Messages.{run_record}
 use Rattle.ndef_c.specs.Items.{AreItems, IsItemAt, MayBeItem}
 use Rattle.ndef_c.proofs.Filled.{filled_on, length-set_over}
-use Rattle.ndef_c.proofs.Listed.{all_reported, items_count, items_on, member_amid, same_end, step, there}
+use Rattle.ndef_c.proofs.Listed.{all_reported, items_count, items_on, same_end, step, there}
 use Rattle.ndef_c.proofs.items.tell_items.Goals as goal
 
 pub loop-index-init : goal.loop-index-init
@@ -33,7 +34,7 @@ item_of-requires-clause-found c =
     let x = c.in-Some.ensures.some in
     let s = step m.bytes.now c.loop-index.at i.left q.2 c.in-Some.found i.walked q.3.inside (omega (arith, test, index, size, count, all)) x in
     let runs : q.1 ≡ i.done ++ x.run ∷ s.more = i.all ∙ ap (λ y. i.done ++ y) s.are in
-    (q.0, c.loop-index.at, x, member_amid (λ r. MayBeItem m.looks m.within q.0 (run_record r)) i.done x.run s.more (subst (λ rs. AllByRecursion (λ r. MayBeItem m.looks m.within q.0 (run_record r)) rs) runs q.3.each))
+    (q.0, c.loop-index.at, x, (all_back (λ r. MayBeItem m.looks m.within q.0 (run_record r)) i.done (x.run ∷ s.more) (subst (λ rs. AllByRecursion (λ r. MayBeItem m.looks m.within q.0 (run_record r)) rs) runs q.3.each)).0)
 
 pub bounds-items-index : goal.bounds-items-index
 bounds-items-index c =
@@ -59,7 +60,7 @@ loop-index-preserved c = λ profile runs end l size.
     let x = c.in-Some.ensures.some in
     let s = step bytes c.loop-index.at i.left end c.in-Some.found i.walked l.inside (omega (arith, test, index, size, count, all)) x in
     let are : runs ≡ i.done ++ x.run ∷ s.more = i.all ∙ ap (λ y. i.done ++ y) s.are in
-    let member = member_amid (λ r. MayBeItem m.looks m.within profile (run_record r)) i.done x.run s.more (subst (λ rs. AllByRecursion (λ r. MayBeItem m.looks m.within profile (run_record r)) rs) are l.each) in
+    let member = (all_back (λ r. MayBeItem m.looks m.within profile (run_record r)) i.done (x.run ∷ s.more) (subst (λ rs. AllByRecursion (λ r. MayBeItem m.looks m.within profile (run_record r)) rs) are l.each)).0 in
     let item = c.item_of.result in
     let h = c.item_of.ensures profile c.loop-index.at x member in
     let next : item.end ≡ c.in-Some.found.end = h.repeats.end ∙ same_end bytes c.loop-index.at h.place c.in-Some.found h.there x in

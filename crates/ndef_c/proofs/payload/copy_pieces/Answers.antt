@@ -1,8 +1,8 @@
 use Rattle.std.proofs.Common.{◌≡◌, ◌+◌, ◌-◌, take, drop, ◌++◌, ◌∷◌, [], sym, ◌∙◌, ap, subst, arith}
 use Rattle.ndef_format.specs.Messages.{payload_of, run_record}
 use Rattle.ndef_c.specs.Buffers.{Puts}
-use Rattle.ndef_c.proofs.Followed.{one_record}
-use Rattle.ndef_c.proofs.PieceParts.{none_left, passes, passing_at, payload_on}
+use Rattle.ndef_c.proofs.Followed.{one_record, payload_on}
+use Rattle.ndef_c.proofs.PieceParts.{none_left, passes, passing_at}
 use Rattle.ndef_c.proofs.Puts.{puts_none, puts_on}
 use Rattle.ndef_c.proofs.payload.copy_pieces.Goals as goal
 
