@@ -1,7 +1,8 @@
 -- The records of the message within a payload, which may be given.
-use Rattle.std.proofs.Common.{◌≡◌, ℕ, ◌+◌, ◌≤◌, List, [], ◌∷◌, ◌++◌, length, length-append, append-nil, drop, map, refl, sym, ◌∙◌, ap, subst, arith, Bool, true, inl, inr}
+use Rattle.std.proofs.Common.{◌≡◌, ℕ, ◌+◌, ◌≤◌, List, [], ◌∷◌, ◌++◌, length, length-append, append-nil, drop, map, refl, sym, ◌∙◌, ap, subst, arith, Bool, true, inl, inr, drop_at}
 use Rattle.std.specs.List.{AllByRecursion}
 use Rattle.std.specs.Prelude.{filter}
+use Rattle.std.proofs.lemmas.List.{length-map}
 use Rattle.ndef_format.specs.Messages.{BeginsOnce, Item, all_pieces, run_record}
 use Rattle.ndef_format.specs.Nested.{IsNest, IsPayload, Nested, kind_in}
 use Rattle.ndef_format.specs.Records.{Run}
@@ -35,67 +36,46 @@ pub all_pass : (items : List Item) → filter (λ i. true) items ≡ items
 all_pass [] = refl
 all_pass (i ∷ items) = ap (λ xs. i ∷ xs) (all_pass items)
 
-map_count : (runs : List Run) → length (map run_record runs) ≡ length runs
-map_count [] = refl
-map_count (r ∷ runs) = let n = map_count runs in omega (arith, n)
-
--- the records of a message within a payload
-pub record Within (table : Table) (profile : Profile) (payload : List ℕ) : Type 0 where
-  pub start : message_at table ≤ length payload
+-- the records of a message within a payload, from a place on
+pub record Within (table : Table) (profile : Profile) (payload : List ℕ) (start : ℕ) : Type 0 where
+  pub inside : start ≤ length payload
   pub runs : List Run
   pub items : List Item
-  pub message : HoldsRuns profile runs (drop (message_at table) payload)
-  pub pieces : MayBeInPieces profile items (drop (message_at table) payload)
+  pub message : HoldsRuns profile runs (drop start payload)
+  pub pieces : MayBeInPieces profile items (drop start payload)
   pub count : length items ≡ length runs
   pub few : length items ≤ 65535
-  pub walked : AreWalked payload (message_at table) runs (length payload)
+  pub walked : AreWalked payload start runs (length payload)
   pub each : AllByRecursion (λ r. MayBeItem true (number_with table) profile (run_record r)) runs
 
--- .. which these octets end, after others
-record Tail (table : Table) (profile : Profile) (front s : List ℕ) : Type 0 where
-  pub runs : List Run
-  pub items : List Item
-  pub message : HoldsRuns profile runs s
-  pub pieces : MayBeInPieces profile items s
-  pub count : length items ≡ length runs
-  pub few : length items ≤ 65535
-  pub walked : AreWalked (front ++ s) (length front) runs (length (front ++ s))
-  pub each : AllByRecursion (λ r. MayBeItem true (number_with table) profile (run_record r)) runs
-
-tail_of : (table : Table) (profile : Profile) (front s : List ℕ) → Nested table 65535 profile s → Tail table profile front s
-tail_of table profile front s (runs, items, by) =
+-- .. after the octets before it
+after : (table : Table) (profile : Profile) (front s : List ℕ) → Nested table 65535 profile s → Within table profile (front ++ s) (length front)
+after table profile front s (runs, items, by) =
     let m = by.spelling.message in
     let bytes = front ++ s in
+    let back : s ≡ drop (length front) bytes = sym (drop_at front s (length front) refl) in
     let some : runs ≡ [] → ⊥ = λ e. subst (λ rs. BeginsOnce (all_pieces rs)) e m.begins in
     let w : AreWalked bytes (length front) runs (length front + length s) =
     walked profile runs bytes front s (length front) m.each_run by.spelling.spelled some m.ends [] (ap (λ x. front ++ x) (sym (append-nil s))) refl in
     record {
+      inside = let n = length-append front s in omega (arith, n);
       runs = runs;
       items = items;
-      message = inr (items, by.spelling);
-      pieces = inr (record { runs = runs; spelling = by.spelling; single = by.single });
-      count = ap length (sym m.items) ∙ map_count runs;
+      message = subst (HoldsRuns profile runs) back (inr (items, by.spelling));
+      pieces = subst (MayBeInPieces profile items) back (inr (record { runs = runs; spelling = by.spelling; single = by.single }));
+      count = ap length (sym m.items) ∙ length-map runs run_record;
       few = by.few;
       walked = subst (AreWalked bytes (length front) runs) (sym (length-append front s)) w;
       each = each_there table profile runs (subst (AllByRecursion (λ i. IsPayload (kind_in table i.tnf i.kind) profile i.payload)) (sym m.items) by.contents.members);
     }
 
-after_version : (table : Table) (profile : Profile) (version : ℕ) (s : List ℕ) → message_at table ≡ 1 → Tail table profile (version ∷ []) s → Within table profile (version ∷ s)
-after_version SmartPoster profile version s e t = absurd (omega (arith, e))
-after_version Request profile version s e t =
-    record { start = omega arith; runs = t.runs; items = t.items; message = t.message; pieces = t.pieces; count = t.count; few = t.few; walked = t.walked; each = t.each }
-after_version Select profile version s e t =
-    record { start = omega arith; runs = t.runs; items = t.items; message = t.message; pieces = t.pieces; count = t.count; few = t.few; walked = t.walked; each = t.each }
-
-pub within_of : (table : Table) (profile : Profile) (payload : List ℕ) → IsNest table 65535 profile payload → Within table profile payload
-within_of SmartPoster profile payload h =
-    let t = tail_of SmartPoster profile [] payload h in
-    record { start = omega arith; runs = t.runs; items = t.items; message = t.message; pieces = t.pieces; count = t.count; few = t.few; walked = t.walked; each = t.each }
+pub within_of : (table : Table) (profile : Profile) (payload : List ℕ) → IsNest table 65535 profile payload → Within table profile payload (message_at table)
+within_of SmartPoster profile payload h = after SmartPoster profile [] payload h
 within_of Request profile [] h = absurd h
-within_of Request profile (version ∷ s) h = after_version Request profile version s refl (tail_of Request profile (version ∷ []) s h.1)
+within_of Request profile (version ∷ s) h = after Request profile (version ∷ []) s h.1
 within_of Select profile [] h = absurd h
 within_of Select profile (version ∷ s) (v, inl none) = record {
-  start = omega arith;
+  inside = omega arith;
   runs = [];
   items = [];
   message = inl (refl, none);
@@ -105,10 +85,10 @@ within_of Select profile (version ∷ s) (v, inl none) = record {
   walked = let n = ap length none in omega (arith, n);
   each = tt;
 }
-within_of Select profile (version ∷ s) (v, inr n) = after_version Select profile version s refl (tail_of Select profile (version ∷ []) s n)
+within_of Select profile (version ∷ s) (v, inr n) = after Select profile (version ∷ []) s n
 
 -- they may be given
-pub listed : (table : Table) (profile : Profile) (m : Listing) (start : ℕ) → (w : Within table profile m.bytes.now) → m.looks ≡ true → m.within ≡ number_with table → start ≡ message_at table → AreListed profile m start w.runs (length m.bytes.now)
+pub listed : (table : Table) (profile : Profile) (m : Listing) (start : ℕ) → (w : Within table profile m.bytes.now (message_at table)) → m.looks ≡ true → m.within ≡ number_with table → start ≡ message_at table → AreListed profile m start w.runs (length m.bytes.now)
 listed table profile m start w looks within at =
     let bytes = m.bytes.now in
     let each : (l : Bool) (k : ℕ) → l ≡ true → k ≡ number_with table → AllByRecursion (λ r. MayBeItem l k profile (run_record r)) w.runs = λ l k e f.
@@ -116,5 +96,5 @@ listed table profile m start w looks within at =
     record { walked = subst (λ k. AreWalked bytes k w.runs (length bytes)) (sym at) w.walked; inside = omega arith; each = each m.looks m.within looks within }
 
 -- the number of those that are counted
-pub counted : (table : Table) (profile : Profile) (payload : List ℕ) (count : ℕ) → (w : Within table profile payload) → count ≡ length (filter (λ i. true) w.items) → count ≡ length w.runs
+pub counted : (table : Table) (profile : Profile) (payload : List ℕ) (count : ℕ) → (w : Within table profile payload (message_at table)) → count ≡ length (filter (λ i. true) w.items) → count ≡ length w.runs
 counted table profile payload count w e = e ∙ ap length (all_pass w.items) ∙ w.count
