@@ -109,7 +109,7 @@ pub extern "C" fn ndef_write_alternative<'a>(
     ensures payload { MayBeAlternative power bytes.now parts.now
         → GivesAlternative power bytes.now parts.now buffer.old buffer.new count.new result }
 {
-    // For the proof alone.
+    // For the proof only.
     alternatives_are_exact();
     let Some(content) = alternative_content(power, bytes, parts) else {
         return BAD_ARGUMENT;

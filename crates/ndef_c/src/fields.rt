@@ -79,18 +79,18 @@ fn count_of(fields: Fields<'_>) -> usize
     count
 }
 
-/// The number of the fields of some bytes, if it is more than `room`.
-pub(crate) fn too_many(fields: Fields<'_>, bytes: usize, room: usize) -> Option<usize>
+/// The number of the fields of some bytes, if it is more than `most`.
+pub(crate) fn too_many(fields: Fields<'_>, bytes: usize, most: usize) -> Option<usize>
     requires { length fields ≤ bytes }
-    ensures some { IfSome result (λ count. (count ≡ length fields.entry) × (room < count)) }
-    ensures none { IfNone result (length fields.entry ≤ room) }
+    ensures some { IfSome result (λ count. (count ≡ length fields.entry) × (most < count)) }
+    ensures none { IfNone result (length fields.entry ≤ most) }
 {
     // A field has at least one byte, so these need not be counted.
-    if bytes <= room {
+    if bytes <= most {
         return None;
     }
     let count = count_of(fields);
-    if count <= room {
+    if count <= most {
         return None;
     }
     Some(count)
