@@ -53,17 +53,6 @@ run_by first m part (next ∷ parts) =
 run_differs : (first : Bool) (size : Option ℕ) (m : Item) → EndDiffers (pieces (cut_run first true size m)) (pieces (cut_run first false size m))
 run_differs first size m = run_by first m (first_part size m.payload) (later_parts size m.payload)
 
-snoc_once : (xs ys : List Piece) (x y : Piece) → xs ++ x ∷ [] ≡ ys ++ y ∷ [] → xs ≡ ys
-snoc_once [] [] x y e = refl
-snoc_once [] (b ∷ []) x y e = absurd (cc)
-snoc_once [] (b ∷ c ∷ ys) x y e = absurd (cc)
-snoc_once (a ∷ []) [] x y e = absurd (cc)
-snoc_once (a ∷ c ∷ xs) [] x y e = absurd (cc)
-snoc_once (a ∷ xs) (b ∷ ys) x y e =
-    let same : a ≡ b = cc in
-    let others : xs ++ x ∷ [] ≡ ys ++ y ∷ [] = cc in
-    ap₂ (λ p ps. p ∷ ps) same (snoc_once xs ys x y others)
-
 -- the octets differ in the bit of their first octet
 pub record BitDiffers (xs ys : List ℕ) : Type 0 where
   pub octet : ℕ
@@ -90,7 +79,10 @@ record_differs : (form : Form) (first : Bool) (size : Option ℕ) (m : Item) (at
 record_differs form first size m at l =
     let d = run_differs first size m in
     let b = piece_differs form d.piece d.last in
-    let same : l.done ≡ d.done = snoc_once l.done d.done l.piece d.piece (sym l.pieces_are ∙ d.are) in
+    let e : l.done ++ l.piece ∷ [] ≡ d.done ++ d.piece ∷ [] = sym l.pieces_are ∙ d.are in
+    let n = sym (length-append l.done (l.piece ∷ [])) ∙ ap length e ∙ length-append d.done (d.piece ∷ []) in
+    let long : length l.done ≡ length d.done = omega (arith, n) in
+    let same : l.done ≡ d.done = sym (take_at l.done _ _ refl) ∙ ap (take (length l.done)) e ∙ take_at d.done _ _ (sym long) in
     let w = written_piece form in
     record {
       front = flat_map w d.done;

@@ -1,5 +1,5 @@
 -- The records to which references refer, among those of a message so far.
-use Rattle.std.proofs.Common.{◌≡◌, ◌≢◌, ℕ, zero, suc, ◌+◌, ◌-◌, ◌<◌, ◌≤◌, Bool, true, false, List, [], ◌∷◌, ◌++◌, length, drop, map, take, get_or, refl, sym, ◌∙◌, ap, subst, arith, ne_eqb, true≢false, inl, inr, is_lt, ◌⊎◌, None, Some}
+use Rattle.std.proofs.Common.{◌≡◌, ◌≢◌, ℕ, zero, suc, ◌+◌, ◌-◌, ◌<◌, ◌≤◌, Bool, true, false, List, [], ◌∷◌, ◌++◌, length, drop, map, take, get_or, below_more, refl, sym, ◌∙◌, ap, subst, arith, ne_eqb, true≢false, inl, inr, is_lt, ◌⊎◌, None, Some}
 use Rattle.std.specs.Cmp.Lexicographic.{slice_cmp}
 use Rattle.std.specs.List.Sorted.{IsPartitionPoint, IsPartitionedBy, IsSortedBy}
 use Rattle.std.specs.Ordering.{nat_cmp}
@@ -150,21 +150,8 @@ refers_first bytes payload r h = (None, inr tt, (h.has, h.index, h.at))
 -- one more of them has the property
 pub below_set : (P : NdefReferenceItem → Type 0) (items : List NdefReferenceItem) (index : ℕ) (new : NdefReferenceItem) → index < length items → P new → ((k : ℕ) (d : NdefReferenceItem) → k < index → P (get_or items k d))
     → (k : ℕ) (d : NdefReferenceItem) → k < index + 1 → P (get_or (slice_set items index new) k d)
-below_set P items index new l p h k d m = by_order (dec_lt k index)
-  where
-    by_order : Dec (k < index) → P (get_or (slice_set items index new) k d)
-    by_order (yes n) = subst P (sym (get_or-set_other items index k new d (λ e. omega (arith, n, e)))) (h k d n)
-    by_order (no n) =
-        let e : k ≡ index = omega (arith, m, n) in
-        subst P (sym (ap (λ j. get_or (slice_set items index new) j d) e ∙ get_or-set_same items index new d l)) p
-
-pub below_next : (P : NdefReferenceItem → Type 0) (items : List NdefReferenceItem) (index : ℕ) → ((k : ℕ) (d : NdefReferenceItem) → k < index → P (get_or items k d)) → ((d : NdefReferenceItem) → P (get_or items index d))
-    → (k : ℕ) (d : NdefReferenceItem) → k < index + 1 → P (get_or items k d)
-below_next P items index h p k d m = by_order (dec_lt k index)
-  where
-    by_order : Dec (k < index) → P (get_or items k d)
-    by_order (yes n) = h k d n
-    by_order (no n) = let e : index ≡ k = omega (arith, m, n) in subst (λ j. P (get_or items j d)) e (p d)
+below_set P items index new l p h k d m =
+    below_more (λ j. (e : NdefReferenceItem) → P (get_or (slice_set items index new) j e)) index (λ j n e. subst P (sym (get_or-set_other items index j new e (λ same. omega (arith, n, same)))) (h j e n)) (λ e. subst P (sym (get_or-set_same items index new e l)) p) k m d
 
 -- ---- a record that a walk passes
 

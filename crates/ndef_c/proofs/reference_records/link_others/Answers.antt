@@ -1,11 +1,11 @@
-use Rattle.std.proofs.Common.{◌<◌, ◌-◌, ℕ, true≢false, ap, sym, ◌∙◌, subst, refl, arith, get_or, map, inl}
+use Rattle.std.proofs.Common.{◌<◌, ◌-◌, ℕ, true≢false, ap, sym, ◌∙◌, subst, refl, arith, get_or, below_more, map, inl}
 use Rattle.std.proofs.Math.Seq.{map-set_same}
 use Rattle.std.proofs.lemmas.List.{get_or-set_other}
 use Rattle.std.proofs.lemmas.Slice.Eq.{bytes_eq-Decides}
 use Rattle.std.proofs.lemmas.List.Elements.{recursion_from_All}
 use Rattle.ndef_c.specs.HandoverItems.{Refers, name_in, without_record}
 use Rattle.ndef_c.specs.declared.reference_items.NdefReferenceItem.{NdefReferenceItem}
-use Rattle.ndef_c.proofs.LinkedReferences.{below_next, below_set, not_alike, refers_as}
+use Rattle.ndef_c.proofs.LinkedReferences.{below_set, not_alike, refers_as}
 use Rattle.ndef_c.proofs.ReferenceOrders.{map_count}
 use Rattle.ndef_c.proofs.reference_records.link_others.Goals as goal
 use Rattle.ndef_c.proofs.reference_records.link_others.Goals.{then-eq, else-eq}
@@ -48,7 +48,7 @@ loop-index-preserved c =
                 (below_set (Refers bytes payload) items index w.linked_as.result (omega (arith, test, n)) (refers_as bytes payload items (index - 1) d _ w.linked_as.result (omega (arith, some, test, n)) name to.has to.index to.at (before (index - 1) d (omega (arith, some)))) before k d l)
             | else-eq w ↦
                 let head = not_alike payload c.args.items.now items index _ _ i.same some (omega (arith, test, n)) (λ e. true≢false (sym (decides.1 (c.name_in.ensures ∙ e ∙ sym c.name_in-in-loop-index.ensures)) ∙ sym c.eq.ensures ∙ w.if-eq.false)) in
-                subst (λ xs. Refers bytes payload (get_or xs k d)) (sym w.items-is) (below_next (Refers bytes payload) items index before (λ e. subst (Refers bytes payload) (sym (i.later index e (omega arith))) (heads index e (omega (arith, test, n)) head)) k d l)
+                subst (λ xs. Refers bytes payload (get_or xs k d)) (sym w.items-is) (below_more (λ j. (e : NdefReferenceItem) → Refers bytes payload (get_or items j e)) index (λ j o e. before j e o) (λ e. subst (Refers bytes payload) (sym (i.later index e (omega arith))) (heads index e (omega (arith, test, n)) head)) k l d)
           ];
     }
 
