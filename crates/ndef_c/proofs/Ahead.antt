@@ -157,7 +157,7 @@ found_of Q bytes at r x f a e one done q s =
 
 -- ---- the bytes that are left
 
-pub empty_rest : (rest : List ℕ) → (length rest == 0) ≡ true → length rest ≡ 0
+pub empty_rest : (rest : List ℕ) → (length rest == 0) ≡ true → rest ≡ []
 empty_rest [] e = refl
 empty_rest (x ∷ rest) e = absurd (true≢false (sym e ∙ ne_eqb (suc (length rest)) 0 (omega arith)))
 

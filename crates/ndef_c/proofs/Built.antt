@@ -1,5 +1,5 @@
 -- A message in a buffer, and the piece that ends it.
-use Rattle.std.proofs.Common.{◌≡◌, ℕ, ◌+◌, ◌-◌, ◌^◌, ◌<◌, ◌≤◌, ◌==◌, suc, ne_eqb, Bool, true, false, true≢false, List, [], ◌∷◌, ◌++◌, take, drop, get_or, refl, sym, ◌∙◌, ap, ap₂, subst, arith, length, length-take, append-nil, Some}
+use Rattle.std.proofs.Common.{◌≡◌, ℕ, ◌+◌, ◌-◌, ◌^◌, ◌<◌, ◌≤◌, Bool, true, false, List, [], ◌++◌, take, drop, get_or, sym, ◌∙◌, ap, ap₂, subst, arith, length, length-take, append-nil, Some}
 use Rattle.std.specs.Prelude.{slice_set, unwrap_or}
 use Rattle.std.proofs.Math.Seq.{take-set-lt}
 use Rattle.std.proofs.lemmas.List.{drop-drop, get_or-take}
@@ -24,10 +24,6 @@ pub ends_only : HeadsAreUnambiguous → (bytes : List ℕ) (at : ℕ) (p : Piece
 ends_only apart bytes at p short rest s e =
     let w = same_split p e.piece short e.short rest [] (drop at bytes) s e.split in
     (ap (λ q. q.last) w.0 ∙ e.last, ap (λ q. q.chunked) w.0 ∙ e.whole, w.1)
-
-pub none_of : (r : List ℕ) → (length r == 0) ≡ true → r ≡ []
-none_of [] e = refl
-none_of (x ∷ r) e = absurd (true≢false (sym e ∙ ne_eqb (suc (length r)) 0 (omega arith)))
 
 -- its bit is set
 pub record Mark (bytes : List ℕ) (at : ℕ) : Type 0 where

@@ -1,9 +1,9 @@
 -- The records to which references refer, among those of a message so far.
-use Rattle.std.proofs.Common.{◌≡◌, ◌≢◌, ℕ, zero, suc, ◌+◌, ◌-◌, ◌<◌, ◌≤◌, Bool, true, false, List, [], ◌∷◌, ◌++◌, length, drop, map, take, get_or, below_more, refl, sym, ◌∙◌, ap, subst, arith, ne_eqb, true≢false, inl, inr, is_lt, ◌⊎◌, None, Some}
+use Rattle.std.proofs.Common.{◌≡◌, ◌≢◌, ℕ, zero, suc, ◌+◌, ◌-◌, ◌<◌, ◌≤◌, Bool, true, false, List, [], ◌∷◌, ◌++◌, length, drop, map, take, get_or, below_more, refl, sym, ◌∙◌, ap, subst, arith, true≢false, inl, inr, is_lt, ◌⊎◌, None, Some}
 use Rattle.std.specs.Cmp.Lexicographic.{slice_cmp}
 use Rattle.std.specs.List.Sorted.{IsPartitionPoint, IsPartitionedBy, IsSortedBy}
 use Rattle.std.specs.Ordering.{nat_cmp}
-use Rattle.std.specs.Prelude.{◌==◌, slice_get, slice_set}
+use Rattle.std.specs.Prelude.{slice_get, slice_set}
 use Rattle.std.proofs.lemmas.Cmp.{nat_list_cmp_total}
 use Rattle.std.proofs.lemmas.List.{get_or-set_other, get_or-set_same, get_or_default, map-append}
 use Rattle.std.proofs.lemmas.List.Sorted.{searchable_from_sorted}
@@ -179,10 +179,6 @@ passes bytes payload runs done run at next place before after some lie b n p sam
     other : (name_in payload before ≢ (run_record run).id) ⊎ (before.has_record ≢ 0) → before.has_record ≡ 0 → HasId (name_in payload before) (run_record run) → name_in payload before ≡ []
     other (inl f) z has = absurd (f (sym has))
     other (inr f) z has = absurd (f z)
-
-pub unnamed : (s : List ℕ) (b : Bool) → b ≡ (length s == 0) → b ≡ true → s ≡ []
-unnamed [] b e t = refl
-unnamed (x ∷ s) b e t = absurd (true≢false (sym t ∙ e ∙ ne_eqb (length (x ∷ s)) 0 (omega arith)))
 
 -- a reference that is not the one before it
 pub not_alike : (payload : List ℕ) (old items : List NdefReferenceItem) (index : ℕ) (d e : NdefReferenceItem) → map without_record items ≡ map without_record old → 1 ≤ index → index < length items

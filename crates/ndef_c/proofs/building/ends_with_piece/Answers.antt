@@ -1,7 +1,8 @@
 use Rattle.std.proofs.Common.{◌==◌, drop, length, sym, ◌∙◌, ap, subst, true≢false}
 use Rattle.ndef_format.specs.HeadReasons.{is_set}
 use Rattle.ndef_piece.specs.Whole.{IsSplit, shown}
-use Rattle.ndef_c.proofs.Built.{ends_only, none_of}
+use Rattle.ndef_c.proofs.Ahead.{empty_rest}
+use Rattle.ndef_c.proofs.Built.{ends_only}
 use Rattle.ndef_c.proofs.building.ends_with_piece.Goals as goal
 
 pub returns-then-not-is_last : goal.returns-then-not-is_last
@@ -21,7 +22,7 @@ returns c =
       λ t. record {
         piece = shown p;
         short = is_set 4 p.header;
-        split = subst (λ r. IsSplit (shown p) (is_set 4 p.header) r (drop c.args.at c.args.bytes.now)) (none_of p.rest.now (sym c.is_empty.ensures ∙ t)) s;
+        split = subst (λ r. IsSplit (shown p) (is_set 4 p.header) r (drop c.args.at c.args.bytes.now)) (empty_rest p.rest.now (sym c.is_empty.ensures ∙ t)) s;
         last = sym c.is_last.ensures ∙ c.if-not-is_last.false;
         whole = sym c.is_chunked.ensures ∙ c.if-is_chunked.false;
       },

@@ -8,7 +8,7 @@ use Rattle.ndef_c.specs.HandoverItems.{AreReferenceItems, HasNoRecord, Refers, R
 use Rattle.ndef_c.specs.Links.{HasRuns}
 use Rattle.ndef_c.specs.ReferenceOrder.{ArePlaced}
 use Rattle.ndef_c.proofs.Filled.{front_of, is_too_small as too_small, is_enough as enough}
-use Rattle.ndef_c.proofs.LinkedReferences.{unnamed}
+use Rattle.ndef_c.proofs.Ahead.{empty_rest}
 use Rattle.ndef_c.proofs.ReferenceLists.{are_placed}
 use Rattle.ndef_c.proofs.ReferenceOrders.{all_bare}
 use Rattle.ndef_c.proofs.handover_items.give_items.Goals as goal
@@ -66,7 +66,7 @@ returns-else-not-is_empty-clause-gives c = λ profile records h.
     let count = c.requires.count profile records h in
     let t = c.tell_references.ensures profile records h in
     let l = c.if-items-count.false in
-    let none = unnamed bytes c.is_empty.result c.is_empty.ensures c.if-not-is_empty.false in
+    let none = empty_rest bytes (sym c.is_empty.ensures ∙ c.if-not-is_empty.false) in
     record {
       records = records;
       carriers = h;

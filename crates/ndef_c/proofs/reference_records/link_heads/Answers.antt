@@ -4,7 +4,8 @@ use Rattle.ndef_message.specs.WrittenLaws.{some_left}
 use Rattle.ndef_c.specs.HandoverItems.{HasNoRecord, RefersAmong, without_record}
 use Rattle.ndef_c.specs.ReferenceOrder.{Links}
 use Rattle.ndef_c.specs.declared.message.Place.{Place}
-use Rattle.ndef_c.proofs.LinkedReferences.{head_alike, passes, passes_unnamed, refers_first, unnamed}
+use Rattle.ndef_c.proofs.Ahead.{empty_rest}
+use Rattle.ndef_c.proofs.LinkedReferences.{head_alike, passes, passes_unnamed, refers_first}
 use Rattle.ndef_c.proofs.ReferenceOrders.{map_count, same_at, sorted_alike}
 use Rattle.ndef_c.proofs.Walking.{all_passed, begins, begins_here, here, left_at, onward}
 use Rattle.ndef_c.proofs.reference_records.link_heads.Goals as goal
@@ -69,7 +70,7 @@ loop-found-preserved c =
                       subst (λ xs. RefersAmong bytes payload (t.0 ++ run ∷ []) (get_or xs k d)) (sym w.items-is)
                       (passes bytes payload runs t.0 run _ _ place (get_or items k d) (get_or new k d) (omega (arith, some, e)) t.1.before (begins_here h) t.2 h.there.at_is (same_at new items w.link_first.ensures.same k d (omega (arith, m, within))) linked (t.3 k d l head))
                   | else-not-is_empty w ↦ subst (λ xs. RefersAmong bytes payload (t.0 ++ run ∷ []) (get_or xs k d)) (sym w.items-is)
-                      (passes_unnamed bytes payload t.0 run (get_or items k d) (sym id ∙ unnamed c.id_in-id.result.now c.is_empty.result c.is_empty.ensures w.if-not-is_empty.false) (t.3 k d l head))
+                      (passes_unnamed bytes payload t.0 run (get_or items k d) (sym id ∙ empty_rest c.id_in-id.result.now (sym c.is_empty.ensures ∙ w.if-not-is_empty.false)) (t.3 k d l head))
                 ],
           );
     }

@@ -1,4 +1,4 @@
-use Rattle.std.proofs.Common.{sym, ◌∙◌, ap, arith}
+use Rattle.std.proofs.Common.{sym, ◌∙◌, ap, arith, length}
 use Rattle.std.specs.Prelude.{encode_utf8}
 use Rattle.ndef_message.specs.WrittenLaws.{some_left}
 use Rattle.ndef_c.proofs.Ahead.{empty_rest}
@@ -30,4 +30,4 @@ loop-rest-preserved c = λ cs a.
     putting_on t n.c n.more _ _ n.is (c.as_bytes.ensures.value ∙ c.encode_utf8.ensures.value ∙ ap encode_utf8 f.0) f.1 c.put.ensures
 
 pub returns : goal.returns
-returns c = λ cs a. all_put (c.loop-rest.invariant cs a) (empty_rest c.loop-rest.rest.now (sym c.is_empty.ensures ∙ c.loop-rest-test.false))
+returns c = λ cs a. all_put (c.loop-rest.invariant cs a) (ap length (empty_rest c.loop-rest.rest.now (sym c.is_empty.ensures ∙ c.loop-rest-test.false)))

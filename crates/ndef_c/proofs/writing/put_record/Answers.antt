@@ -79,5 +79,5 @@ returns c =
     record {
       put = subst (λ x. Puts a.out.now x c.loop-last.out) all i.puts;
       bound = omega (arith, n, bound);
-      last = (i.begins, cutting_end i.cutting c.requires.some (empty_rest c.loop-last.rest.now none), i.last);
+      last = (i.begins, cutting_end i.cutting c.requires.some (ap length (empty_rest c.loop-last.rest.now none)), i.last);
     }
