@@ -1,5 +1,5 @@
 -- The reason why no message is made, the output for it, and the status.
-use Rattle.std.specs.Prelude.{◌++◌, ◌-◌, ℕ, codes, decimal, Option, Some}
+use Rattle.std.specs.Prelude.{◌++◌, ◌-◌, ℕ, [], codes, decimal, Option, Some}
 use Rattle.clap.specs.Words.{Text}
 use Rattle.ndef_message.specs.declared.input.InputError.{InputError}
 use Rattle.ndef_message.specs.declared.input.InputError.TheVariants as inputs
@@ -13,17 +13,15 @@ use Rattle.ndef_value.specs.declared.name.NameError.{NameError}
 use Rattle.ndef_value.specs.declared.name.NameError.TheVariants as names
 use Rattle.ndef_value.specs.declared.record.RecordError.{RecordError}
 use Rattle.ndef_value.specs.declared.record.RecordError.TheVariants as records
-use Rattle.ndef_format.specs.Reasons.{reason_name, reason_number}
-use Rattle.ndef_format.specs.declared.refusal.Refusal.{Refusal}
 use Rattle.ndef_cli_make.specs.declared.fault.Fault.{Fault}
 use Rattle.ndef_cli_make.specs.declared.fault.Fault.TheVariants.{Usage, UsageAt, EditAt, Refused, Reading, TooLong, Memory}
+use Rattle.ndef_cli_make.specs.declared.fault.Refused.{Refused as Unwritable}
 use Rattle.ndef_cli_make.specs.declared.fault.Refused.TheVariants as refused
+use Rattle.ndef_cli.specs.Outcomes.{refusal_text}
 use Rattle.ndef_cli.specs.Quoting.{quoted}
 use Rattle.ndef_cli.specs.declared.status.Status.{Status}
 use Rattle.ndef_cli_make.specs.SizeChecks.{most_in}
 use Rattle.ndef_cli_make.specs.UsageErrors.{usage_at, usage_line}
-use Rattle.ndef_cli_make.specs.declared.fault.FaultText.{FaultText}
-use Rattle.ndef_cli_make.specs.declared.fault.FaultText.TheVariants as reported
 use Rattle.ndef_cli.specs.declared.status.Status.TheVariants as status
 
 -- ---- errors of the input and of parts
@@ -73,69 +71,55 @@ abbrev pub fault_after : (file : Option Text) → Fault → Fault
 fault_after (Some name) (UsageAt n usage_error) = EditAt n usage_error
 fault_after file fault = fault
 
--- -- the output
+-- ---- the output
 
--- where and why bytes are refused, after what they are
-abbrev pub refusal_line : Text → Refusal → Text
-refusal_line front r =
-    front ++ decimal r.at ++ codes ": " ++ decimal (reason_number r.reason) ++ codes " "
-    ++ reason_name r.reason ++ codes "\n"
+-- a request that can't be written, in words; what `refused_rest` says follows some of them
+abbrev pub refused_words : Unwritable → Text
+refused_words refused.LanguageTooLong = codes "a language code of more than 63 bytes"
+refused_words refused.LanguageNotAscii = codes "a language code that is not ASCII"
+refused_words refused.PayloadTooLong = codes "a payload of more than 4294967295 bytes"
+refused_words refused.BadShape = codes "parts that do not go with the type name format"
+refused_words refused.PartTooLong = codes "a type or an id of more than 255 bytes"
+refused_words (refused.BadPayload refusal) = codes "payload at "
+refused_words refused.NoPoster = codes "records that are no smart poster"
+refused_words refused.NoHandover = codes "records that are no handover"
+refused_words refused.BadError = codes "data that do not go with the reason of an error"
+refused_words refused.TooManyReferences = codes "more than 255 auxiliary references"
+refused_words (refused.NoRecord reference) = codes "no record has the id "
+refused_words (refused.NoRoom size room) = []
+refused_words refused.TooManyRecords = codes "more than 65535 records"
+refused_words (refused.BadMessage refusal) = codes "message of --from at "
+refused_words (refused.BytesAfter at) = codes "bytes after the message of --from at "
+refused_words refused.NoRecords = codes "no record of the message is left"
 
--- for a payload that isn't one of its type
-abbrev pub payload_line : Refusal → Text
-payload_line r = refusal_line (codes "refused: payload at ") r
+-- Type 2 Tag, NDEF Message TLV: the length of a message that is too long for a tag, and how much it is too long
+abbrev pub lengths_text : (n room : ℕ) → Text
+lengths_text n room =
+    codes "a message of " ++ decimal n ++ codes " bytes, and the tag has room for "
+    ++ decimal (most_in room) ++ codes ": " ++ decimal (n - most_in room) ++ codes " too many"
 
--- for a message in a file that is refused
-abbrev pub message_line : Refusal → Text
-message_line r = refusal_line (codes "refused: message of --from at ") r
+-- where and why bytes are refused, where bytes are left, the id, or the lengths
+abbrev pub refused_rest : Unwritable → Text
+refused_rest (refused.BadPayload refusal) = refusal_text refusal.at refusal.reason
+refused_rest (refused.BadMessage refusal) = refusal_text refusal.at refusal.reason
+refused_rest (refused.BytesAfter at) = decimal at
+refused_rest (refused.NoRecord reference) = quoted reference
+refused_rest (refused.NoRoom size room) = lengths_text size room
+refused_rest _ = []
 
--- for bytes after a message in a file
-abbrev pub bytes_line : (at : ℕ) → Text
-bytes_line at = codes "refused: bytes after the message of --from at " ++ decimal at ++ codes "\n"
-
--- Connection Handover 1.2, Carrier Data Reference: for a reference without a record
-abbrev pub record_line : Text → Text
-record_line reference = codes "refused: no record has the id " ++ quoted reference ++ codes "\n"
-
--- Type 2 Tag, NDEF Message TLV: for a message that is too long for a tag
-abbrev pub room_line : (n room : ℕ) → Text
-room_line n room =
-    codes "refused: a message of " ++ decimal n ++ codes " bytes, and the tag has room for "
-    ++ decimal (most_in room) ++ codes ": " ++ decimal (n - most_in room)
-    ++ codes " too many\n"
+-- the line of a request that can't be written
+abbrev pub refused_line : Unwritable → Text
+refused_line r = codes "refused: " ++ refused_words r ++ refused_rest r ++ codes "\n"
 
 -- the line of a fault
 abbrev pub line_of : Fault → Text
 line_of (Usage usage_error) = usage_line usage_error
 line_of (UsageAt n usage_error) = usage_at (codes "record ") n usage_error
 line_of (EditAt n usage_error) = usage_at (codes "edit ") n usage_error
-line_of (Refused refused.LanguageTooLong) = codes "refused: a language code of more than 63 bytes\n"
-line_of (Refused refused.LanguageNotAscii) = codes "refused: a language code that is not ASCII\n"
-line_of (Refused refused.PayloadTooLong) =
-    codes "refused: a payload of more than 4294967295 bytes\n"
-line_of (Refused refused.BadShape) =
-    codes "refused: parts that do not go with the type name format\n"
-line_of (Refused refused.PartTooLong) = codes "refused: a type or an id of more than 255 bytes\n"
-line_of (Refused (refused.BadPayload refusal)) = payload_line refusal
-line_of (Refused refused.NoPoster) = codes "refused: records that are no smart poster\n"
-line_of (Refused refused.NoHandover) = codes "refused: records that are no handover\n"
-line_of (Refused refused.BadError) =
-    codes "refused: data that do not go with the reason of an error\n"
-line_of (Refused refused.TooManyReferences) = codes "refused: more than 255 auxiliary references\n"
-line_of (Refused (refused.NoRecord reference)) = record_line reference
-line_of (Refused (refused.NoRoom size room)) = room_line size room
-line_of (Refused refused.TooManyRecords) = codes "refused: more than 65535 records\n"
-line_of (Refused (refused.BadMessage refusal)) = message_line refusal
-line_of (Refused (refused.BytesAfter at)) = bytes_line at
-line_of (Refused refused.NoRecords) = codes "refused: no record of the message is left\n"
+line_of (Refused r) = refused_line r
 line_of Reading = codes "fault: reading\n"
 line_of TooLong = codes "fault: more than 1048576 bytes of input\n"
 line_of Memory = codes "fault: memory\n"
-
--- what is written
-abbrev pub fault_text : FaultText → Text
-fault_text (reported.Text text) = text.now
-fault_text (reported.Line line) = line
 
 -- ---- the status
 
