@@ -14,7 +14,7 @@ use Rattle.ndef_cli_make.specs.Posters.{MakesNested, action_said, size_said, tit
 use Rattle.ndef_cli_make.specs.Records.{Answer, IsNamed, MakesItem, MakesNamed, MakesSaid, MakesText, MakesUri, app_said, external_said, item_said, media_said, text_said, uri_said}
 use Rattle.ndef_cli_make.specs.declared.contents.Property.TheVariants as property
 use Rattle.ndef_cli_make.specs.declared.fault.Fault.{Fault}
-use Rattle.ndef_cli_make.specs.declared.fault.Fault.TheVariants.{Usage, UsageAt, EditAt, Refused, Reading, TooLong, Memory}
+use Rattle.ndef_cli_make.specs.declared.fault.Fault.TheVariants.{Usage, Refused, Memory}
 use Rattle.ndef_cli_make.specs.declared.fault.Refused.TheVariants as refused
 use Rattle.ndef_cli_make.specs.declared.handover.Side.{Side}
 use Rattle.ndef_cli_make.specs.declared.handover.Side.TheVariants.{Request, Select}
@@ -85,24 +85,6 @@ unrefused (Some subject.Carrier) rows payload r h = carrier (id_said rows) rows 
 pub unmade_if : (unchecked : Bool) (makes : Answer → Type 0) (fault : Fault) → ((r : Refusal) → makes (bad r) → ⊥) → makes (Err fault) → MakesIf unchecked makes (Err fault)
 unmade_if true makes fault never h = h
 unmade_if false makes (Usage m) never h = inl h
-unmade_if false makes (UsageAt n m) never h = h
-unmade_if false makes (EditAt n m) never h = h
-unmade_if false makes Reading never h = h
-unmade_if false makes TooLong never h = h
 unmade_if false makes Memory never h = inl h
 unmade_if false makes (Refused (refused.BadPayload r)) never h = absurd (never r h)
-unmade_if false makes (Refused refused.LanguageTooLong) never h = h
-unmade_if false makes (Refused refused.LanguageNotAscii) never h = h
-unmade_if false makes (Refused refused.PayloadTooLong) never h = h
-unmade_if false makes (Refused refused.BadShape) never h = h
-unmade_if false makes (Refused refused.PartTooLong) never h = h
-unmade_if false makes (Refused refused.NoPoster) never h = h
-unmade_if false makes (Refused refused.NoHandover) never h = h
-unmade_if false makes (Refused refused.BadError) never h = h
-unmade_if false makes (Refused refused.TooManyReferences) never h = h
-unmade_if false makes (Refused (refused.NoRecord reference)) never h = h
-unmade_if false makes (Refused refused.TooManyRecords) never h = h
-unmade_if false makes (Refused (refused.BadMessage refusal)) never h = h
-unmade_if false makes (Refused (refused.BytesAfter at)) never h = h
-unmade_if false makes (Refused refused.NoRecords) never h = h
-unmade_if false makes (Refused (refused.NoRoom size room)) never h = h
+unmade_if false makes _ never h = h

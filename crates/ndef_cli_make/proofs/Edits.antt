@@ -1,26 +1,24 @@
 -- Edits, one after another.
 use Rattle.std.proofs.Common.{◌≡◌, ◌∙◌, ◌<◌, ◌≤◌, ◌+◌, ℕ, zero, suc, Bool, true, false, List, [], ◌∷◌, ◌++◌, append-nil, append_assoc, length, take, get_or, map, Option, None, Some, refl, sym, ap, ap₂, arith, cond, rules, subst}
-use Rattle.std.specs.Prelude.{◌||◌, ◌==◌, count_by, drop, nat_lt, option_and_then, option_map}
+use Rattle.std.specs.Prelude.{◌==◌, count_by, drop, nat_lt, option_and_then, option_map}
 use Rattle.std.proofs.Math.ListN.{set}
-use Rattle.std.specs.List.{find, flat_map, list_any, remove, slice_get}
+use Rattle.std.specs.List.{find, flat_map, remove, slice_get}
 use Rattle.std.proofs.lemmas.Bool.{eqb-true, false_from_ne_true, lt-ltb, ltb-true}
 use Rattle.std.proofs.Math.Seq.{drop-append-add, drop-cons, drop-append_seam, get_or-append_seam, take-append-add, take-append_seam}
-use Rattle.std.proofs.lemmas.List.{drop-set, flat_map_more, length-append, length-map, take-append-drop, take-set, take_all, take_more}
+use Rattle.std.proofs.lemmas.List.{drop-set, flat_map_more, length-append, take-append-drop, take-set, take_more}
 use Rattle.std.proofs.lemmas.List.Concat.{flat_map-append}
-use Rattle.std.proofs.lemmas.List.Folds.{find-append, list_any-append}
+use Rattle.std.proofs.lemmas.List.Folds.{find-append}
 use Rattle.std.proofs.lemmas.List.Sums.{sum_by-cons}
 use Rattle.std.proofs.lemmas.Option.{get_or_from_slice_get, slice_get-get_or, slice_get_within, slice_get-map, slice_get_past, slice_get_read}
 use Rattle.std.specs.Option.{option_map_or, option_or}
 use Rattle.ndef_format.specs.Messages.{Item}
 use Rattle.ndef_cli_make.specs.Asked.{AskedPart}
 use Rattle.ndef_cli_make.specs.Edited.{IsPlaced}
-use Rattle.ndef_cli_make.specs.Editing.{altered_by, flags_in, flags_of, edit_map, edit_references, in_place, kept_from, usage_error_after, usage_error_at, names, number_of, one_or_none, passes, record_of, records_in}
+use Rattle.ndef_cli_make.specs.Editing.{altered_by, edit_map, edit_references, in_place, kept_from, usage_error_after, usage_error_at, names, number_of, one_or_none, passes, record_of, records_in}
 use Rattle.ndef_cli_make.specs.References.{references_of}
 use Rattle.ndef_cli_make.specs.declared.editing.Edit.{Edit}
 use Rattle.ndef_cli_make.specs.declared.editing.Edit.TheVariants.{Keeps, Drops, Replaces, Adds}
 use Rattle.ndef_cli_make.specs.declared.usage_error.UsageError.{UsageError}
-use Rattle.ndef_cli_make.specs.declared.editing.Flags.{Flags}
-use Rattle.ndef_cli_make.proofs.Lists.{mapped_more}
 
 -- ---- one edit
 
@@ -37,48 +35,15 @@ numbers_same f (e ∷ es) = ap (λ n. n ∷ map number_of (map (edit_map f) es))
 
 -- ---- the records of edits
 
-or_false : (b : Bool) → (b || false) ≡ b
-or_false true = refl
-or_false false = refl
+count_one : {X : Type 0} (test : X → Bool) (o : Option X) (xs : List X) → count_by test (one_or_none o ++ xs) ≡ cond (option_map_or test o false) 1 0 + count_by test xs
+count_one test None xs = omega arith
+count_one test (Some x) xs = sum_by-cons (λ y. cond (test y) 1 0) x xs
 
-one_passes : {X : Type 0} (test : X → Bool) (o : Option X) → list_any test (one_or_none o) ≡ option_map_or test o false
-one_passes test None = refl
-one_passes test (Some x) = or_false (test x)
-
--- one element more passes or doesn't
-any_more : {A B : Type 0} (test : B → Bool) (f : A → B) (ps : List A) (n : ℕ) (p : A) → n < length ps → p ≡ get_or ps n p
-    → list_any test (map f (take (n + 1) ps)) ≡ (list_any test (map f (take n ps)) || test (f p))
-any_more test f ps n p l e =
-    ap (list_any test) (mapped_more f ps n p l e) ∙ list_any-append test (map f (take n ps)) (f p ∷ []) ∙ ap (λ b. list_any test (map f (take n ps)) || b) (or_false (test (f p)))
-
-abbrev both : (hex raw : Bool) → Flags
-both hex raw = record { hex = hex; raw = raw }
-
--- a record that passes or doesn't
-passes_some : {X : Type 0} (test : X → Bool) (e : Edit X) (x : X) → record_of e ≡ Some x → passes test e ≡ test x
-passes_some test e x is = ap (λ o. option_map_or test o false) is
-
--- no record doesn't
-passes_none : {X : Type 0} (test : X → Bool) (e : Edit X) → record_of e ≡ None → passes test e ≡ false
-passes_none test e is = ap (λ o. option_map_or test o false) is
-
-count_one : {X : Type 0} (test : X → Bool) (x : X) (xs : List X) (es : List (Edit X)) (e : Edit X) → record_of e ≡ Some x → count_by test xs ≡ count_by (passes test) es
-    → count_by test (x ∷ xs) ≡ count_by (passes test) (e ∷ es)
-count_one test x xs es e is same =
-    sum_by-cons (λ y. cond (test y) 1 0) x xs ∙ ap₂ (λ b n. cond b 1 0 + n) (sym (passes_some test e x is)) same ∙ sym (sum_by-cons (λ d. cond (passes test d) 1 0) e es)
-
-count_none : {X : Type 0} (test : X → Bool) (xs : List X) (es : List (Edit X)) (e : Edit X) → record_of e ≡ None → count_by test xs ≡ count_by (passes test) es
-    → count_by test xs ≡ count_by (passes test) (e ∷ es)
-count_none test xs es e is same =
-    let zero : count_by (passes test) es ≡ 0 + count_by (passes test) es = omega arith in
-    same ∙ zero ∙ ap (λ b. cond b 1 0 + count_by (passes test) es) (sym (passes_none test e is)) ∙ sym (sum_by-cons (λ d. cond (passes test d) 1 0) e es)
-
-pub count_in : {X : Type 0} (test : X → Bool) (es : List (Edit X)) → count_by test (records_in es) ≡ count_by (passes test) es
-count_in test [] = refl
-count_in test (Keeps flags ∷ es) = count_none test (records_in es) es (Keeps flags) refl (count_in test es)
-count_in test (Drops n flags ∷ es) = count_none test (records_in es) es (Drops n flags) refl (count_in test es)
-count_in test (Replaces n x ∷ es) = count_one test x (records_in es) es (Replaces n x) refl (count_in test es)
-count_in test (Adds x ∷ es) = count_one test x (records_in es) es (Adds x) refl (count_in test es)
+pub count_in : {X Y : Type 0} (test : Y → Bool) (f : X → Edit Y) (es : List X) → count_by test (records_in (map f es)) ≡ count_by (λ e. passes test (f e)) es
+count_in test f [] = refl
+count_in test f (e ∷ es) =
+    count_one test (record_of (f e)) (records_in (map f es)) ∙ ap (λ n. cond (passes test (f e)) 1 0 + n) (count_in test f es)
+    ∙ sym (sum_by-cons (λ d. cond (passes test (f d)) 1 0) e es)
 
 one_refers : (o : Option AskedPart) → flat_map references_of (one_or_none o) ≡ option_map_or references_of o []
 one_refers None = refl
@@ -246,14 +211,6 @@ number_at count numbers at number others m there front is =
 -- the number of an edit at a place
 pub number_there : {X : Type 0} (edits : List (Edit X)) (at : ℕ) (e : Edit X) → at < length edits → e ≡ get_or edits at e → slice_get (map number_of edits) at ≡ Some (number_of e)
 number_there edits at e l is = slice_get-map number_of edits at ∙ ap (option_map number_of) (slice_get_read edits (length edits) at e refl l is)
-
--- ---- all edits
-
-whole : {A B : Type 0} (f : A → B) (ps : List A) (n : ℕ) → length ps ≤ n → take n (map f ps) ≡ map f ps
-whole f ps n l = take_all n (map f ps) (omega (arith, l, length-map ps f))
-
-pub count_whole : {A B : Type 0} (test : B → Bool) (f : A → B) (ps : List A) (n : ℕ) → length ps ≤ n → count_by test (take n (map f ps)) ≡ count_by test (map f ps)
-count_whole test f ps n l = ap (count_by test) (whole f ps n l)
 
 -- ---- finding
 

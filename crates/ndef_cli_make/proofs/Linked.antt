@@ -1,5 +1,5 @@
 -- The meaning of the words of a handover.
-use Rattle.std.proofs.Common.{◌≡◌, ◌∙◌, ℕ, List, [], ◌∷◌, Option, None, Some, Ok, Err, sym, ap, ap₂, subst, arith}
+use Rattle.std.proofs.Common.{◌≡◌, ◌∙◌, ℕ, List, [], ◌∷◌, Option, None, Some, Err, sym, ap, ap₂, subst, arith}
 use Rattle.std.specs.Prelude.{option_and_then}
 use Rattle.clap.specs.Words.{Text}
 use Rattle.ndef_types.specs.Values.{AcValue, ErrorValue}
@@ -11,7 +11,7 @@ use Rattle.ndef_cli_make.specs.Options.{cut_at, is_colon, number_below}
 use Rattle.ndef_cli_make.specs.Records.{Answer, MakesSaid}
 use Rattle.ndef_cli_make.specs.declared.carrier_word.Linked.{Linked}
 use Rattle.ndef_cli_make.specs.declared.fault.Fault.{Fault}
-use Rattle.ndef_cli_make.specs.declared.fault.Fault.TheVariants.{Usage, UsageAt, EditAt, Refused, Reading, TooLong, Memory}
+use Rattle.ndef_cli_make.specs.declared.fault.Fault.TheVariants.{Usage, Refused, Memory}
 use Rattle.ndef_cli_make.specs.declared.fault.Refused.TheVariants as refused
 use Rattle.ndef_cli_make.specs.declared.usage_error.UsageError.TheVariants as usage_error
 
@@ -22,26 +22,7 @@ bad_carrier power [] (Refused refused.PartTooLong) h = absurd (h tt)
 bad_carrier power [] (Refused refused.TooManyReferences) h = absurd (omega (arith, h.1))
 bad_carrier power (reference ∷ auxiliary) (Refused refused.PartTooLong) h = h
 bad_carrier power (reference ∷ auxiliary) (Refused refused.TooManyReferences) h = (h.0, omega (arith, h.1))
-bad_carrier power references (Usage m) h = absurd h
-bad_carrier power references (UsageAt n m) h = absurd h
-bad_carrier power references (EditAt n m) h = absurd h
-bad_carrier power references Reading h = absurd h
-bad_carrier power references TooLong h = absurd h
-bad_carrier power references Memory h = absurd h
-bad_carrier power references (Refused refused.LanguageTooLong) h = absurd h
-bad_carrier power references (Refused refused.LanguageNotAscii) h = absurd h
-bad_carrier power references (Refused refused.PayloadTooLong) h = absurd h
-bad_carrier power references (Refused refused.BadShape) h = absurd h
-bad_carrier power references (Refused (refused.BadPayload refusal)) h = absurd h
-bad_carrier power references (Refused refused.NoPoster) h = absurd h
-bad_carrier power references (Refused refused.NoHandover) h = absurd h
-bad_carrier power references (Refused refused.BadError) h = absurd h
-bad_carrier power references (Refused (refused.NoRecord name)) h = absurd h
-bad_carrier power references (Refused refused.TooManyRecords) h = absurd h
-bad_carrier power references (Refused (refused.BadMessage refusal)) h = absurd h
-bad_carrier power references (Refused (refused.BytesAfter at)) h = absurd h
-bad_carrier power references (Refused refused.NoRecords) h = absurd h
-bad_carrier power references (Refused (refused.NoRoom size room)) h = absurd h
+bad_carrier power references _ h = absurd h
 
 -- what is made of the carrier for which a word stands
 pub carrier_made : (word : Text) (linked : Linked) (answer : Answer) → Some (link_read linked) ≡ link_said word
@@ -65,25 +46,15 @@ error_of_parts word reason digits number detail cut is some =
 -- what is made of it
 pub error_asked : (word : Text) (v : ErrorValue) (answer : Answer) → error_said word ≡ Some v → MakesError v answer → AsksError word answer
 error_asked word v (Err Memory) said h = (v, said)
-error_asked word v (Ok i) said h = subst (λ (o : Option ErrorValue). MakesSaid usage_error.Reason MakesError o (Ok i)) (sym said) h
-error_asked word v (Err (Usage m)) said h = absurd h
-error_asked word v (Err (UsageAt n m)) said h = absurd h
-error_asked word v (Err (EditAt n m)) said h = absurd h
-error_asked word v (Err Reading) said h = subst (λ (o : Option ErrorValue). MakesSaid usage_error.Reason MakesError o (Err Reading)) (sym said) h
-error_asked word v (Err TooLong) said h = subst (λ (o : Option ErrorValue). MakesSaid usage_error.Reason MakesError o (Err TooLong)) (sym said) h
-error_asked word v (Err (Refused why)) said h = subst (λ (o : Option ErrorValue). MakesSaid usage_error.Reason MakesError o (Err (Refused why))) (sym said) h
+error_asked word v answer said h = subst (λ (o : Option ErrorValue). MakesSaid usage_error.Reason MakesError o answer) (sym said) h
 
 -- an error whose data are none
 pub error_unsaid : (word reason digits : Text) (number : ℕ) (fault : Fault) → cut_at is_colon word ≡ Some (reason, digits) → number_below 256 reason ≡ Some number
     → SaysOctets usage_error.Reason digits (Err fault) → AsksError word (Err fault)
-error_unsaid word reason digits number (UsageAt n m) cut is none = absurd none
-error_unsaid word reason digits number (EditAt n m) cut is none = absurd none
 error_unsaid word reason digits number (Usage m) cut is (reported, none) =
     let said : error_said word ≡ None =
     ap (option_and_then (λ cut. error_of_words (number_below 256 cut.0) (octets_in cut.1))) cut ∙ ap₂ error_of_words is none in
     subst (λ (o : Option ErrorValue). MakesSaid usage_error.Reason MakesError o (Err (Usage m))) (sym said) (ap (λ reported. Err (Usage reported)) reported)
 error_unsaid word reason digits number Memory cut is some =
     (record { reason = number; detail = some.0 }, error_of_parts word reason digits number some.0 cut is some.1)
-error_unsaid word reason digits number Reading cut is none = absurd none
-error_unsaid word reason digits number TooLong cut is none = absurd none
-error_unsaid word reason digits number (Refused why) cut is none = absurd none
+error_unsaid word reason digits number _ cut is none = absurd none

@@ -1,11 +1,10 @@
 -- Lists, one element after another.
 use Rattle.std.proofs.Common.{◌≡◌, ◌∙◌, ◌+◌, ◌<◌, ℕ, zero, suc, Bool, true, false, List, [], ◌∷◌, ◌++◌, length, take, get_or, map, Option, Some, None, Result, Ok, Err, refl, sym, ap, ap₂, arith, cond}
-use Rattle.std.specs.Prelude.{◌||◌, count_by, option_map, IfOk, Vec}
+use Rattle.std.specs.Prelude.{◌||◌, option_map, IfOk, Vec}
 use Rattle.std.specs.Borrow.{Bor}
 use Rattle.std.specs.List.{find, list_any, slice_split, onto_first}
 use Rattle.std.proofs.lemmas.List.{get_or-map, length-map, map-append, take_more}
 use Rattle.std.proofs.lemmas.List.Folds.{list_any_more}
-use Rattle.std.proofs.lemmas.List.Sums.{count_by_more_no, count_by_more_yes}
 
 -- ---- words that are cut
 
@@ -93,11 +92,3 @@ pub any_not : {A B : Type 0} (test : B → Bool) (f : A → B) (ps : List A) (n 
     → list_any test (take n (map f ps)) ≡ false → list_any test (take (n + 1) (map f ps)) ≡ false
 any_not test f ps n p l e is none =
     list_any_more test (map f ps) n (f p) (within f ps n l) ∙ ap₂ (λ a b. a || b) none (ap test (at_place f ps n p l e) ∙ is)
-
-pub counted_yes : {A B : Type 0} (test : B → Bool) (f : A → B) (ps : List A) (n : ℕ) (p : A) → n < length ps → p ≡ get_or ps n p → test (f p) ≡ true
-    → count_by test (take (n + 1) (map f ps)) ≡ count_by test (take n (map f ps)) + 1
-counted_yes test f ps n p l e is = count_by_more_yes test (map f ps) n (f p) (within f ps n l) (ap test (at_place f ps n p l e) ∙ is)
-
-pub counted_no : {A B : Type 0} (test : B → Bool) (f : A → B) (ps : List A) (n : ℕ) (p : A) → n < length ps → p ≡ get_or ps n p → test (f p) ≡ false
-    → count_by test (take (n + 1) (map f ps)) ≡ count_by test (take n (map f ps))
-counted_no test f ps n p l e is = count_by_more_no test (map f ps) n (f p) (within f ps n l) (ap test (at_place f ps n p l e) ∙ is)

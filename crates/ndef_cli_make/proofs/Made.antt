@@ -4,7 +4,7 @@ use Rattle.std.proofs.lemmas.List.{take_all}
 use Rattle.ndef_format.specs.Messages.{Item}
 use Rattle.ndef_cli_make.specs.Records.{Answer, AreMadeBy, FailsBy, IsUnmade}
 use Rattle.ndef_cli_make.specs.declared.fault.Fault.{Fault}
-use Rattle.ndef_cli_make.specs.declared.fault.Fault.TheVariants.{Usage, UsageAt, EditAt, Refused, Reading, TooLong, Memory}
+use Rattle.ndef_cli_make.specs.declared.fault.Fault.TheVariants.{Memory}
 use Rattle.ndef_cli_make.proofs.Lists.{mapped_at, mapped_more}
 
 made_after : {X : Type 0} (makes : X → Answer → Type 0) (xs : List X) (items : List Item) (x : X) (i : Item) → AreMadeBy makes xs items → makes x (Ok i)
@@ -27,13 +27,8 @@ AreKept makes xs before after = (items : List Item) × AreMadeBy makes xs items 
 -- ---- where no record is made
 
 pub unmade : {Y : Type 0} (makes : Result Y Fault → Type 0) (fault : Fault) → makes (Err fault) → IsUnmade makes fault
-unmade makes (Usage usage_error) is = is
-unmade makes (UsageAt n usage_error) is = is
-unmade makes (EditAt n usage_error) is = is
-unmade makes (Refused why) is = is
-unmade makes Reading is = is
-unmade makes TooLong is = is
 unmade makes Memory is = inl is
+unmade makes _ is = is
 
 fails_at : {A X : Type 0} (makes : X → Answer → Type 0) (f : A → X) (ps : List A) (n : ℕ) (p : A) (items : List Item) (fault : Fault) → n < length ps → p ≡ get_or ps n p
     → AreMadeBy makes (map f (take n ps)) items → IsUnmade (makes (f p)) fault → FailsBy makes (map f ps) fault

@@ -1,6 +1,5 @@
 -- The records of the contents, one after another, with the bytes of inputs.
-use Rattle.std.proofs.Common.{◌≡◌, ◌<◌, ◌≤◌, ◌+◌, ℕ, suc, List, [], ◌∷◌, ◌++◌, length, take, map, get_or, Result, Ok, Err, refl, sym, ap, subst, inr}
-use Rattle.std.proofs.lemmas.List.{take_all}
+use Rattle.std.proofs.Common.{◌≡◌, ◌<◌, ◌+◌, ℕ, suc, List, [], ◌∷◌, ◌++◌, length, take, map, get_or, Result, Ok, Err, refl, sym, ap, subst, inr}
 use Rattle.ndef_cli_make.specs.Faults.{fault_at}
 use Rattle.ndef_cli_make.specs.Making.{AreMadeIn, FailsIn}
 use Rattle.ndef_cli_make.specs.Records.{IsUnmade}

@@ -1,15 +1,11 @@
 -- References that aren't too long.
-use Rattle.std.proofs.Common.{◌≡◌, ◌<◌, ◌∙◌, ℕ, Bool, List, [], ◌∷◌, ◌++◌, length, refl, sym, ap, arith, rules, true, false, Err, Ok}
+use Rattle.std.proofs.Common.{◌≡◌, ◌<◌, ◌∙◌, ℕ, Bool, List, [], ◌∷◌, ◌++◌, length, refl, sym, ap, arith, rules, true, false, Err}
 use Rattle.std.specs.Prelude.{◌&&◌, IsErrOf, Result, nat_lt}
 use Rattle.ndef_value.specs.declared.name.NameError.{NameError}
 use Rattle.ndef_value.specs.declared.name.NameError.TheVariants as names
 use Rattle.std.proofs.lemmas.Bool.{lt-ltb, ltb-true}
 use Rattle.ndef_cli_make.specs.Faults.{name_fault}
-use Rattle.ndef_cli_make.specs.Handovers.{AreNames, AreShort, MakesAcRecord, MakesAlternative, are_short}
-use Rattle.ndef_cli_make.specs.Records.{Answer}
-use Rattle.ndef_cli_make.specs.declared.fault.Fault.TheVariants.{Usage, UsageAt, EditAt, Refused, Reading, TooLong, Memory}
-use Rattle.ndef_cli_make.specs.declared.fault.Refused.TheVariants as refused
-use Rattle.ndef_types.specs.Values.{AcValue}
+use Rattle.ndef_cli_make.specs.Handovers.{AreNames, AreShort, are_short}
 use Rattle.clap.specs.Words.{Text}
 
 -- one of them
@@ -44,29 +40,3 @@ short_if (r ∷ references) is =
 pub long_if : (references : List Text) → are_short references ≡ false → AreShort references → ⊥
 long_if [] is are = absurd (search rules)
 long_if (r ∷ references) is are = long_if references (sym (ap (λ b. b && are_short references) (lt-ltb (length r) 256 are.0)) ∙ is) are.1
-
--- the record of a carrier whose references are short
-pub made_short : (v : AcValue) (answer : Answer) → AreShort (v.reference ∷ v.auxiliary) → MakesAcRecord v answer → MakesAlternative v answer
-made_short v (Ok i) short is = (short, is.0, is.1, is.2, is.3)
-made_short v (Err Memory) short is = (short, is)
-made_short v (Err (Usage usage_error)) short is = absurd is
-made_short v (Err (UsageAt n usage_error)) short is = absurd is
-made_short v (Err (EditAt n usage_error)) short is = absurd is
-made_short v (Err Reading) short is = absurd is
-made_short v (Err TooLong) short is = absurd is
-made_short v (Err (Refused refused.TooManyReferences)) short is = (short, is)
-made_short v (Err (Refused refused.PayloadTooLong)) short is = is
-made_short v (Err (Refused refused.LanguageTooLong)) short is = absurd is
-made_short v (Err (Refused refused.LanguageNotAscii)) short is = absurd is
-made_short v (Err (Refused refused.BadShape)) short is = absurd is
-made_short v (Err (Refused refused.PartTooLong)) short is = absurd is
-made_short v (Err (Refused (refused.BadPayload refusal))) short is = absurd is
-made_short v (Err (Refused refused.NoPoster)) short is = absurd is
-made_short v (Err (Refused refused.NoHandover)) short is = absurd is
-made_short v (Err (Refused refused.BadError)) short is = absurd is
-made_short v (Err (Refused (refused.NoRecord reference))) short is = absurd is
-made_short v (Err (Refused refused.TooManyRecords)) short is = absurd is
-made_short v (Err (Refused (refused.BadMessage refusal))) short is = absurd is
-made_short v (Err (Refused (refused.BytesAfter at))) short is = absurd is
-made_short v (Err (Refused refused.NoRecords)) short is = absurd is
-made_short v (Err (Refused (refused.NoRoom size room))) short is = absurd is

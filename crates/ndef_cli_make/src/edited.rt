@@ -323,13 +323,7 @@ fn readers_of(edits: &[Edit<ParsedPart<'_>>]) -> usize
     ensures value { result ≡ readers_of (records_in (map (edit_map asked_part) edits.now)) }
     ensures bound { result ≤ length edits.now }
 {
-    let mut count = 0;
-    for edit in edits {
-        if is_reader_of(edit) {
-            count += 1;
-        }
-    }
-    count
+    edits.iter().filter(|edit| is_reader_of(*edit)).count()
 }
 
 /// Whether more than one input is standard input: the message, or the payload of a part.

@@ -29,12 +29,7 @@ fn kind_of(item: &Record) -> Kind
 fn any_control(bytes: &[u8]) -> bool
     ensures { result ≡ list_any is_control bytes.now }
 {
-    for byte in bytes {
-        if *byte < 0x20 {
-            return true;
-        }
-    }
-    false
+    bytes.iter().any(|byte| *byte < 0x20)
 }
 
 /// Whether the URI of a payload has a character from 0 to 31 (RTD URI 1.0, URI field).
@@ -106,24 +101,14 @@ fn value_bar(item: &Record) -> Option<UsageError>
 fn any_bad_uri(records: &[Record]) -> bool
     ensures { result ≡ list_any is_bad_uri records.now }
 {
-    for item in records {
-        if is_bad_uri(item) {
-            return true;
-        }
-    }
-    false
+    records.iter().any(|item| is_bad_uri(item))
 }
 
 /// Whether one of the records is a text without a language code.
 fn any_bad_text(records: &[Record]) -> bool
     ensures { result ≡ list_any is_bad_text records.now }
 {
-    for item in records {
-        if is_bad_text(item) {
-            return true;
-        }
-    }
-    false
+    records.iter().any(|item| is_bad_text(item))
 }
 
 /// Returns the error for a forbidden value in one of the records, if there is one.
@@ -163,12 +148,7 @@ fn is_twin(one: &Record, other: &Record) -> bool
 fn has_twin(one: &Record, others: &[Record]) -> bool
     ensures { result ≡ list_any (is_twin one.now) others.now }
 {
-    for other in others {
-        if is_twin(one, other) {
-            return true;
-        }
-    }
-    false
+    others.iter().any(|other| is_twin(one, other))
 }
 
 /// Whether two of the records are texts in one language.
@@ -215,12 +195,7 @@ fn is_alternative(item: &Record) -> bool
 fn any_alternative(records: &[Record]) -> bool
     ensures { result ≡ list_any is_alternative records.now }
 {
-    for item in records {
-        if is_alternative(item) {
-            return true;
-        }
-    }
-    false
+    records.iter().any(|item| is_alternative(item))
 }
 
 /// Returns the error for a forbidden value in the records of a handover request, if there is one.

@@ -12,12 +12,7 @@ use std::alloc::Global;
 fn are_digits(digits: &[u8]) -> bool
     ensures { result ≡ list_all is_hex_digit digits.now }
 {
-    for digit in digits {
-        if !digit.is_ascii_hexdigit() {
-            return false;
-        }
-    }
-    true
+    digits.iter().all(|digit| digit.is_ascii_hexdigit())
 }
 
 /// The bytes of hexadecimal digits; where they are none, these words are wrong.

@@ -1,6 +1,7 @@
 //! The references of handovers to the records of the message.
 ghost use Rattle.std.specs.Prelude.{◌≡◌, ◌∷◌, [], map};
-ghost use Rattle.std.specs.List.{flat_map};
+ghost use Rattle.std.specs.List.{flat_map, list_any};
+ghost use Rattle.std.specs.Str.{bytes_eq};
 ghost use Rattle.ndef_cli_make.specs.Asked.{asked_part};
 ghost use Rattle.ndef_cli_make.specs.CarrierWords.{references_left};
 ghost use Rattle.ndef_cli_make.specs.References.{AreFound, is_id, references_in, references_of};
@@ -12,19 +13,18 @@ use crate::{Fault, Refused};
 use ndef_value::{Name, Record};
 use std::alloc::Global;
 
+/// Whether a record has this id, if it isn't empty.
+fn any_id(records: &[Record], id: &[u8]) -> bool
+    ensures { result ≡ list_any (λ i. bytes_eq i.id id.now) records.now }
+{
+    records.iter().any(|item| item.id() == id)
+}
+
 /// Whether a record has this id; no record has the empty one.
 fn is_id(records: &[Record], id: &[u8]) -> bool
     ensures { result ≡ is_id records.now id.now }
 {
-    if id.is_empty() {
-        return false;
-    }
-    for item in records {
-        if item.id() == id {
-            return true;
-        }
-    }
-    false
+    !id.is_empty() && any_id(records, id)
 }
 
 /// Finds a record for a reference.

@@ -1,7 +1,7 @@
-use Rattle.std.proofs.Common.{◌≡◌, inl, inr, rules, map, string_bytes, Some, None}
+use Rattle.std.proofs.Common.{◌≡◌, inl, inr, rules, map, string_bytes, Some}
 use Rattle.clap.specs.Words.{app_of, kind_of}
 use Rattle.clap.specs.declared.error.kind.ErrorKind.TheVariants.{OutOfMemory}
-use Rattle.ndef_cli_make.specs.Asked.{asked_part, part_in}
+use Rattle.ndef_cli_make.specs.Asked.{asked_part}
 use Rattle.ndef_cli_make.proofs.Parsed.{maker, maker_after, parsed, unparsed}
 use Rattle.ndef_cli_make.proofs.parts.parse_part.Goals as goal
 
