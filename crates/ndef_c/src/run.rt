@@ -39,6 +39,7 @@ fn is_later(piece: &WholePiece<'_>) -> bool
 }
 
 /// The run with which the bytes begin, if all of it is there.
+#[inline(always)]
 pub(crate) fn first_run(bytes: &[u8]) -> Option<FirstRun<'_>>
     ensures none { IfNone result (¬ HasRun bytes.now) }
     ensures some { IfSome result (IsFirstRun bytes.now) }
