@@ -3,10 +3,10 @@
 
 use crate::proved::ndef_c::checking::NdefChecked;
 use crate::proved::ndef_c::part::NdefPart;
-use crate::proved::ndef_c::refusal::refuse;
-use crate::proved::ndef_c::status::{BAD_ARGUMENT, END, OK};
+use crate::proved::ndef_c::refusal::{accepts, is_payload};
+use crate::proved::ndef_c::status::{BAD_ARGUMENT, END, OK, REFUSED};
 use crate::proved::ndef_lang::{Kind, Leaf};
-use crate::proved::ndef_types::{accept, AlternativeParts};
+use crate::proved::ndef_types::AlternativeParts;
 use crate::proved::ndef_value::Profile;
 
 /// An alternative carrier.
@@ -28,13 +28,11 @@ fn alternative_at(payload: &[u8]) -> NdefAlternative {
 /// Gives the power state of the alternative carrier that the payload of an Alternative Carrier
 /// record describes, and its number of references.
 pub fn ndef_alternative(payload: &[u8], out: &mut NdefAlternative, refusal: &mut NdefChecked) -> u32 {
-    match accept::<Leaf>(Kind::Alternative, Profile::Strict, payload) {
-        Ok(()) => {
-            *out = alternative_at(payload);
-            OK
-        }
-        Err(found) => refuse(found, refusal),
+    if !accepts::<Leaf>(Kind::Alternative, 0, payload, refusal) {
+        return REFUSED;
     }
+    *out = alternative_at(payload);
+    OK
 }
 
 /// The reference after its length octet, at an offset.
@@ -82,8 +80,8 @@ fn give_reference(payload: &[u8], index: usize, out: &mut NdefPart) -> u32 {
 /// Gives the offset of the reference with an index in the payload of an Alternative Carrier record:
 /// 0 is the carrier data reference, and the auxiliary ones follow.
 pub fn ndef_reference(payload: &[u8], index: usize, out: &mut NdefPart) -> u32 {
-    match accept::<Leaf>(Kind::Alternative, Profile::Strict, payload) {
-        Ok(()) => give_reference(payload, index, out),
-        Err(_) => BAD_ARGUMENT,
+    if !is_payload::<Leaf>(Kind::Alternative, Profile::Strict, payload) {
+        return BAD_ARGUMENT;
     }
+    give_reference(payload, index, out)
 }

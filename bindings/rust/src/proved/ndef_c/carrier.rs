@@ -3,11 +3,10 @@
 
 use crate::proved::ndef_c::buffer::give_parts;
 use crate::proved::ndef_c::checking::NdefChecked;
-use crate::proved::ndef_c::refusal::refuse;
-use crate::proved::ndef_c::status::{BAD_ARGUMENT, OK};
+use crate::proved::ndef_c::refusal::accepts;
+use crate::proved::ndef_c::status::{BAD_ARGUMENT, OK, REFUSED};
 use crate::proved::ndef_lang::{Kind, Leaf};
-use crate::proved::ndef_types::{accept, CarrierParts};
-use crate::proved::ndef_value::Profile;
+use crate::proved::ndef_types::CarrierParts;
 
 /// A handover carrier, by offsets and lengths in its payload.
 #[repr(C)]
@@ -40,13 +39,11 @@ fn carrier_at(payload: &[u8]) -> NdefCarrier {
 
 /// Gives the offsets of the parts of the carrier that the payload of a Handover Carrier record describes.
 pub fn ndef_carrier(payload: &[u8], out: &mut NdefCarrier, refusal: &mut NdefChecked) -> u32 {
-    match accept::<Leaf>(Kind::Carrier, Profile::Strict, payload) {
-        Ok(()) => {
-            *out = carrier_at(payload);
-            OK
-        }
-        Err(found) => refuse(found, refusal),
+    if !accepts::<Leaf>(Kind::Carrier, 0, payload, refusal) {
+        return REFUSED;
     }
+    *out = carrier_at(payload);
+    OK
 }
 
 /// Whether a carrier of these parts may be written.

@@ -3,9 +3,9 @@
 
 use crate::proved::ndef_c::alternative::counted_at;
 use crate::proved::ndef_c::part::NdefPart;
+use crate::proved::ndef_c::refusal::is_payload;
 use crate::proved::ndef_c::status::{BAD_ARGUMENT, BUFFER_TOO_SMALL, OK};
 use crate::proved::ndef_lang::{Kind, Leaf};
-use crate::proved::ndef_types::accept;
 use crate::proved::ndef_value::Profile;
 
 /// Writes where each reference lies to the front of the parts.
@@ -35,8 +35,8 @@ fn give_references(payload: &[u8], parts: &mut [NdefPart], count: &mut usize) ->
 /// Gives the offset of each reference in the payload of an Alternative Carrier record: the carrier data reference
 /// first, then the auxiliary ones.
 pub fn ndef_references(payload: &[u8], parts: &mut [NdefPart], count: &mut usize) -> u32 {
-    match accept::<Leaf>(Kind::Alternative, Profile::Strict, payload) {
-        Ok(()) => give_references(payload, parts, count),
-        Err(_) => BAD_ARGUMENT,
+    if !is_payload::<Leaf>(Kind::Alternative, Profile::Strict, payload) {
+        return BAD_ARGUMENT;
     }
+    give_references(payload, parts, count)
 }

@@ -2,8 +2,11 @@
 //! Refusals as numbers.
 
 use crate::proved::ndef_c::checking::NdefChecked;
+use crate::proved::ndef_c::limits::profile_of;
 use crate::proved::ndef_c::status::REFUSED;
-use crate::proved::ndef_value::Refusal;
+use crate::proved::ndef_lang::{Kind, Language};
+use crate::proved::ndef_types::accept;
+use crate::proved::ndef_value::{Profile, Refusal};
 
 /// A refusal as numbers.
 pub(crate) fn refused_by(refusal: Refusal) -> NdefChecked {
@@ -14,4 +17,23 @@ pub(crate) fn refused_by(refusal: Refusal) -> NdefChecked {
 pub(crate) fn refuse(refusal: Refusal, out: &mut NdefChecked) -> u32 {
     *out = refused_by(refusal);
     REFUSED
+}
+
+/// Whether the payload is one of the kind, as the profile reads it.
+pub(crate) fn is_payload<L: Language>(kind: Kind, profile: Profile, payload: &[u8]) -> bool {
+    match accept::<L>(kind, profile, payload) {
+        Ok(()) => true,
+        Err(_) => false,
+    }
+}
+
+/// Whether the payload is one of the kind, as the profile that the flags ask for reads it. If not, writes its refusal.
+pub(crate) fn accepts<L: Language>(kind: Kind, flags: u32, payload: &[u8], refusal: &mut NdefChecked) -> bool {
+    match accept::<L>(kind, profile_of(flags), payload) {
+        Ok(()) => true,
+        Err(found) => {
+            *refusal = refused_by(found);
+            false
+        }
+    }
 }

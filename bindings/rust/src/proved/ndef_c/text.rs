@@ -4,12 +4,11 @@
 use crate::proved::ndef_c::buffer::give;
 use crate::proved::ndef_c::checking::NdefChecked;
 use crate::proved::ndef_c::content::{give_content, Content};
-use crate::proved::ndef_c::refusal::refuse;
-use crate::proved::ndef_c::status::{BAD_ARGUMENT, OK};
+use crate::proved::ndef_c::refusal::accepts;
+use crate::proved::ndef_c::status::{BAD_ARGUMENT, OK, REFUSED};
 use crate::proved::ndef_c::utf16::give_in_utf8;
 use crate::proved::ndef_lang::{Kind, Leaf};
-use crate::proved::ndef_types::{accept, unmark, Encoding, TextParts};
-use crate::proved::ndef_value::Profile;
+use crate::proved::ndef_types::{unmark, Encoding, TextParts};
 
 /// A text, by offsets and lengths in its payload.
 #[repr(C)]
@@ -50,13 +49,11 @@ pub(crate) fn text_at(payload: &[u8]) -> NdefText {
 
 /// Gives the offsets of the parts of the text that the payload of a Text record holds.
 pub fn ndef_text(payload: &[u8], out: &mut NdefText, refusal: &mut NdefChecked) -> u32 {
-    match accept::<Leaf>(Kind::Text, Profile::Strict, payload) {
-        Ok(()) => {
-            *out = text_at(payload);
-            OK
-        }
-        Err(found) => refuse(found, refusal),
+    if !accepts::<Leaf>(Kind::Text, 0, payload, refusal) {
+        return REFUSED;
     }
+    *out = text_at(payload);
+    OK
 }
 
 /// Writes the text of a payload to the buffer in UTF-8.
@@ -74,10 +71,10 @@ fn give_text(payload: &[u8], buffer: &mut [u8], count: &mut usize) -> u32 {
 /// Writes the text that the payload of a Text record holds to the buffer in UTF-8, converted where
 /// it is UTF-16, without its byte order mark.
 pub fn ndef_text_in_utf8(payload: &[u8], buffer: &mut [u8], count: &mut usize, refusal: &mut NdefChecked) -> u32 {
-    match accept::<Leaf>(Kind::Text, Profile::Strict, payload) {
-        Ok(()) => give_text(payload, buffer, count),
-        Err(found) => refuse(found, refusal),
+    if !accepts::<Leaf>(Kind::Text, 0, payload, refusal) {
+        return REFUSED;
     }
+    give_text(payload, buffer, count)
 }
 
 /// Returns the content of a text, which is given in UTF-8, if the numbers and its parts may be written.

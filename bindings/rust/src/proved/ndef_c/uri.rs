@@ -4,27 +4,21 @@
 use crate::proved::ndef_c::buffer::give_parts;
 use crate::proved::ndef_c::checking::NdefChecked;
 use crate::proved::ndef_c::content::{give_content, Content};
-use crate::proved::ndef_c::limits::profile_of;
-use crate::proved::ndef_c::refusal::refuse;
-use crate::proved::ndef_c::status::BAD_ARGUMENT;
+use crate::proved::ndef_c::refusal::accepts;
+use crate::proved::ndef_c::status::{BAD_ARGUMENT, REFUSED};
 use crate::proved::ndef_lang::{Kind, Leaf};
-use crate::proved::ndef_types::{accept, prefix, split};
-
-/// Writes the URI of a payload to the buffer.
-fn give_uri(payload: &[u8], buffer: &mut [u8], count: &mut usize) -> u32 {
-    let [code, rest @ ..] = payload else { unreachable!() };
-    give_parts(&[], prefix(*code).as_bytes(), rest, buffer, count)
-}
+use crate::proved::ndef_types::{prefix, split};
 
 /// Writes the URI that the payload of a URI record holds, its prefix written out, to the buffer.
 pub fn ndef_uri(payload: &[u8], flags: u32, buffer: &mut [u8], count: &mut usize, refusal: &mut NdefChecked) -> u32 {
     if flags > 1 {
         return BAD_ARGUMENT;
     }
-    match accept::<Leaf>(Kind::Uri, profile_of(flags), payload) {
-        Ok(()) => give_uri(payload, buffer, count),
-        Err(found) => refuse(found, refusal),
+    if !accepts::<Leaf>(Kind::Uri, flags, payload, refusal) {
+        return REFUSED;
     }
+    let [code, rest @ ..] = payload else { unreachable!() };
+    give_parts(&[], prefix(*code).as_bytes(), rest, buffer, count)
 }
 
 /// Writes the payload of a URI record, by the longest prefix that begins the URI, to the buffer.
