@@ -1,5 +1,5 @@
 //! A short text, made with no memory.
-ghost use Rattle.std.specs.Prelude.{◌≡◌, ◌+◌, ◌*◌, ◌≤◌, ◌∷◌, [], ◌++◌, length, decimal};
+ghost use Rattle.std.specs.Prelude.{◌≡◌, ◌+◌, ◌*◌, ◌≤◌, [], ◌++◌, length, decimal};
 ghost use Rattle.ndef_cli.specs.Quoting.{quoted, quoted_byte, quoted_bytes};
 
 use crate::quoting::{digits_of, is_plain};
