@@ -30,6 +30,7 @@ Without a FILE, and for the FILE -, it reads standard input.
   --payload N         the most bytes of a payload, 1 to 4294967295; by default 1048576
   --records N         the most records of a message, 1 to 65535; by default 1024
   --pieces N          the most chunks of a record, 1 to 65535; by default 4096
+  --chunks N          another name of --pieces
   --profile P         strict, the default, refuses reserved values;
                       standard reads them as the standard says
   --color WHEN        always, never, or auto, the default: in colour where output is a
